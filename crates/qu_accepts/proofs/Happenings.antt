@@ -7,6 +7,7 @@ use Rattle.qu_base.specs.declared.party.Party.TheVariants as party
 use Rattle.qu_base.specs.Bounds.{AreThresholds}
 use Rattle.qu_base.proofs.ThresholdFacts.{are_thresholds}
 use Rattle.qu_history.specs.Culling.{culled}
+use Rattle.qu_history.specs.Formats.{sets_form}
 use Rattle.qu_frames.specs.declared.frame.Body.{Body}
 use Rattle.qu_frames.specs.declared.frame.Body.TheVariants as body
 use Rattle.qu_frames.specs.declared.frame.Frame.{Frame}
@@ -33,7 +34,7 @@ use Rattle.qu_runs.proofs.Fits.FitParts.{fits_parts}
 use Rattle.qu_runs.proofs.Fits.Fitting.{handed_fits}
 use Rattle.qu_grounds.proofs.Acceptance.{step_moves, IsFormed}
 use Rattle.qu_grounds.proofs.ActAcceptance.{alike_candidates}
-use Rattle.qu_grounds.proofs.Formed.{sets_formed}
+use Rattle.qu_grounds.proofs.Formed.{sets_formed, sets_grouped}
 use Rattle.qu_accepts.proofs.Handling.{mid_bounds, learns_nothing, holds_alike, mid_candidates}
 use Rattle.qu_grounds.proofs.Parts.{adds_or_not}
 use Rattle.qu_accepts.proofs.Takings.{Takes, event_takes}
@@ -42,9 +43,12 @@ use Rattle.qu_accepts.proofs.Waiting.{Came, came_later, handled_waits, waiting_c
 
 pub formed_by : (state : ReplicaState) (carried : Frame) → AreThresholds state.keys.bounds → frame_form.Fits carried
     → IsFormed state carried
-formed_by state (frame.Request client number round sets asks mac) thresholds fits =
-    sets_formed state.keys.bounds (culled state.keys state.me sets) thresholds
-    (culled-fits state.keys state.me sets (request-fits client number round sets asks mac fits).shown)
+formed_by state (frame.Request client number round sets asks mac) thresholds fits = λ object.
+    let kept : sets_form.Fits (culled state.keys state.me sets) =
+    culled-fits state.keys state.me sets (request-fits client number round sets asks mac fits).shown in (
+      sets_formed state.keys.bounds (culled state.keys state.me sets) thresholds kept object,
+      sets_grouped (culled state.keys state.me sets) kept object,
+    )
 formed_by state _ thresholds fits = tt
 
 -- ---- what is handled in a run
@@ -85,6 +89,7 @@ accepts_alike mid other new carried alike it = record {
       current = mends.current;
       above = mends.above;
       whole = mends.whole;
+      listed = mends.listed;
       version = mends.version;
       remedy = mends.remedy;
       stored = alike.versions ∙ mends.stored;
@@ -95,7 +100,7 @@ module _ (trace : Trace) (is_run : IsRun trace) (have : ArePlain trace) (at : �
   -- what is handled fits its format
   pub handled_fits : frame_form.Fits handles.carried
   handled_fits =
-      handed_fits trace is_run have handles.since handles.entry (omega (arith, below, handles.came))
+      handed_fits trace is_run have.typed handles.since handles.entry (omega (arith, below, handles.came))
       (party.Replica (record { 0 = place })) handles.text
       (ap (λ (it : Entry). handed (world_after trace handles.since) it.event)
       (get_or_from_slice_get trace.entries handles.since handles.entry handles.entry handles.is_entry)
@@ -156,7 +161,7 @@ pub before_next : (at since : ℕ) → since < at + 1 → since ≤ at
 before_next at since order = omega (arith, order)
 
 -- what a frame makes of a replica is what its request makes, upon what is learned
-on_frame_is : (state : ReplicaState) (received : Frame)
+pub on_frame_is : (state : ReplicaState) (received : Frame)
     → (replica_on_frame state received).0 ≡ (if_handled (learned state received) (handled state received)).0
 on_frame_is state (frame.Request client number round sets body mac) = refl
 on_frame_is state (frame.Fetched replica object stamp version mac) = refl

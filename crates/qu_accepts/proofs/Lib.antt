@@ -8,5 +8,6 @@ pub mod TrueVotes
 pub mod Voting
 pub mod Happenings
 pub mod Accepting
+pub mod Together
 pub mod KnownObjects
 pub mod Handled

@@ -223,7 +223,7 @@ module _ (trace : Trace) (is_run : IsRun trace) (have : ArePlain trace) (count :
 
     read_fits : (received : Frame) → read ≡ Some received → frame_form.Fits received
     read_fits received brings =
-        from_fits trace is_run have count within (party.Replica me) text from received
+        from_fits trace is_run have.typed count within (party.Replica me) text from received
         (brought_is_decoded state.keys (party.Replica state.me) text received brings)
 
     state_fits : StateFits state
@@ -243,7 +243,7 @@ module _ (trace : Trace) (is_run : IsRun trace) (have : ArePlain trace) (count :
         brought_vote trace count are (party.Replica state.me) text
         (subst (λ (to : Party). IsOfSender before to text) (sym named)
         (from_sender before (party.Replica me) text from))
-        (λ sent decodes. from_fits trace is_run have count within (party.Replica me) text from sent decodes)
+        (λ sent decodes. from_fits trace is_run have.typed count within (party.Replica me) text from sent decodes)
         state.keys (keys_are trace count me.0 state found) received brings object stamp vote is)
         (are.votes me.0 state found)) in
         record {

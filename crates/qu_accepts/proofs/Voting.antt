@@ -91,7 +91,8 @@ module _ (trace : Trace) (is_run : IsRun trace) (have : ArePlain trace) (at : �
       → BringsVote taken object stamp vote → IsVote trace at object stamp vote
   handed_vote taken brings object stamp vote is =
       brought_vote trace at here me text (unforged_sender (world_after trace at) me text unforged)
-      (handed_fits trace is_run have at entry below me text hands) old.keys (keys_are trace at place old is_old) taken
+      (handed_fits trace is_run have.typed at entry below me text hands) old.keys (keys_are trace at place old is_old)
+      taken
       (subst (λ (it : ReplicaId). brought old.keys (party.Replica it) text ≡ Some taken)
       (me_is trace at place old is_old) brings) object stamp vote is
 
@@ -141,7 +142,7 @@ module _ (trace : Trace) (is_run : IsRun trace) (have : ArePlain trace) (at : �
       (not-true _ good.correct) in
       let fits : state_form.Fits version =
       fetched_fit replica object stamp version mac
-      (handed_fits trace is_run have at entry below me text hands taken
+      (handed_fits trace is_run have.typed at entry below me text hands taken
       (brought_is_decoded old.keys (party.Replica old.me) text taken brings)) in
       let text_is : vote.value ≡ spelled = (bytes_eq-Decides vote.value spelled).0 good.passes in
       let same : told.version ≡ version =

@@ -6,6 +6,7 @@ use Rattle.qu_base.specs.Bounds.{quorum, repair}
 use Rattle.qu_stamp.specs.declared.stamp.Stamp.{Stamp}
 use Rattle.qu_stamp.specs.declared.candidate.Candidate.{Candidate}
 use Rattle.qu_stamp.specs.Stamp.{is_below}
+use Rattle.qu_stamp.specs.Candidate.{member as member_on}
 use Rattle.qu_history.specs.declared.sets.SetOf.{SetOf}
 use Rattle.qu_history.specs.Culling.{culled}
 use Rattle.qu_history.specs.Sets.{entries_of, latest_of, order_of, method_at}
@@ -21,7 +22,7 @@ use Rattle.qu_frames.specs.declared.frame.Body.TheVariants as body
 use Rattle.qu_frames.specs.declared.frame.Frame.{Frame}
 use Rattle.qu_frames.specs.declared.frame.Frame.TheVariants as frame
 use Rattle.qu_versions.specs.declared.stored.Stored.{Stored}
-use Rattle.qu_rows.specs.Rows.{Asked, asked_of, fresh_stamp}
+use Rattle.qu_rows.specs.Rows.{Asked, asked_of, fresh_stamp, objects_of}
 use Rattle.qu_rows.specs.State.{ReplicaState, own_candidates, own_latest}
 use Rattle.qu_fitting.specs.Holding.{stored_if}
 use Rattle.qu_versions.specs.Versions.{version_at}
@@ -40,12 +41,27 @@ made_stamp asked object barrier =
       set = asked.set;
     }
 
--- the replica makes the candidate: above all that is shown, upon the object candidate, with the digests of the act, if
--- one is asked for, and of the sets; it stands alone, since what is asked is of one object
-pub record IsMade (bounds : ℕ) (asked : Asked) (object : ObjectId) (candidate : Candidate) : Type 0 where
+-- the group of the candidates that are made together on these objects: none on one object alone, else each object with
+-- the time of its candidate, in their order
+abbrev pub fresh_group : Asked → List ObjectId → List (ObjectId × ℕ)
+fresh_group asked [] = []
+fresh_group asked (object ∷ []) = []
+fresh_group asked (first ∷ second ∷ later) =
+    map (λ (object : ObjectId). (object, (fresh_stamp asked object).time)) (first ∷ second ∷ later)
+
+-- the replica makes the candidate, with those on the other objects: above all that is shown, upon the object candidate,
+-- with the digests of the act, if one is asked for, and of the sets
+pub record IsMade (bounds : ℕ) (asked : Asked) (objects : List ObjectId) (object : ObjectId) (candidate : Candidate)
+    : Type 0 where
   pub stamp : candidate.stamp ≡ made_stamp asked object candidate.stamp.barrier
   pub prior : candidate.prior ≡ (object_base bounds (entries_of object asked.sets)).stamp
-  pub group : candidate.group ≡ []
+  pub group : candidate.group ≡ fresh_group asked objects
+
+-- the objects on which a request makes candidates together: those of an act, or the one that is mended
+abbrev pub made_on : Body → List ObjectId
+made_on (body.Act parts) = objects_of parts
+made_on (body.Ask parts) = []
+made_on (body.Mend target) = target ∷ []
 
 -- it is shown the candidate, by so many that it may be repaired, and nothing later
 pub record IsFound (bounds : ℕ) (asked : Asked) (object : ObjectId) (candidate : Candidate) : Type 0 where
@@ -54,13 +70,13 @@ pub record IsFound (bounds : ℕ) (asked : Asked) (object : ObjectId) (candidate
 
 -- ---- an act
 
--- why a replica in this state accepts a candidate on an object upon a request of an act: the sets show a base that
--- a quorum holds and that nothing shown is above, and the replica itself has nothing above what is shown
-pub record IsGround (state : ReplicaState) (asked : Asked) (object : ObjectId) (candidate base : Candidate)
-    : Type 0 where
+-- why a replica in this state accepts a candidate on an object upon a request of an act on these objects: the sets show
+-- a base that a quorum holds and that nothing shown is above, and the replica itself has nothing above what is shown
+pub record IsGround (state : ReplicaState) (asked : Asked) (objects : List ObjectId) (object : ObjectId)
+    (candidate base : Candidate) : Type 0 where
   pub method : method_at state.keys.bounds (entries_of object asked.sets) ≡ Some base
   pub prior : candidate.prior ≡ base.stamp
-  pub group : candidate.group ≡ []
+  pub group : candidate.group ≡ fresh_group asked objects
   pub stamp : candidate.stamp ≡ fresh_stamp asked object
   pub current : is_below (latest_of (entries_of object asked.sets)) (own_latest state object) ≡ false
 
@@ -91,7 +107,7 @@ pub record Performs (old new : ReplicaState) (asked : Asked) (parts : List (Obje
     (candidates : ObjectId → Candidate) : Type 0 where
   pub bases : ObjectId → Candidate
   pub grounds : (object : ObjectId) → Names parts object
-      → IsGround old asked object (candidates object) (bases object)
+      → IsGround old asked (objects_of parts) object (candidates object) (bases object)
   pub versions : ObjectId → ObjState
   pub performed : ArePerformed old asked.client asked.number parts bases candidates versions
   pub stored : new.versions ≡ old.versions ++ stored_of candidates versions parts
@@ -110,11 +126,12 @@ pub data IsRemedy (state : ReplicaState) (asked : Asked) (target : ObjectId) (ca
       → version_at target candidate.stamp state.versions ≡ Some version
       → IsRemedy state asked target candidate None
   -- it sets a barrier
-  barrier : candidate.stamp.barrier ≡ true → IsMade state.keys.bounds asked target candidate
+  barrier : candidate.stamp.barrier ≡ true → IsMade state.keys.bounds asked (target ∷ []) target candidate
       → IsRemedy state asked target candidate None
-  -- it copies the object candidate, where a quorum holds the latest, a barrier
+  -- it copies the object candidate, which stands alone, where a quorum holds the latest, a barrier
   copy : (latest : Candidate) (version : ObjState) → candidate.stamp.barrier ≡ false
-      → IsMade state.keys.bounds asked target candidate
+      → IsMade state.keys.bounds asked (target ∷ []) target candidate
+      → (object_base state.keys.bounds (entries_of target asked.sets)).group ≡ []
       → latest.stamp.barrier ≡ true → latest.stamp ≡ latest_of (entries_of target asked.sets)
       → quorum state.keys.bounds ≤ order_of latest (entries_of target asked.sets)
       → version_at target candidate.prior state.versions ≡ Some version
@@ -124,11 +141,6 @@ pub data IsRemedy (state : ReplicaState) (asked : Asked) (target : ObjectId) (ca
 abbrev pub MendsOn : ObjectId → List (ObjectId × ℕ) → ObjectId → Type 0
 MendsOn target [] object = target ≡ object
 MendsOn target (member ∷ later) object = Names (member ∷ later) object
-
--- what is added on the objects of a group has this whole group
-abbrev pub IsOfGroup : List (ObjectId × ℕ) → Candidate → Type 0
-IsOfGroup [] candidate = Unit {0}
-IsOfGroup (member ∷ later) candidate = candidate.group ≡ member ∷ later
 
 -- it adds a candidate to each object that is mended, above all that it has there
 pub record Mends (old new : ReplicaState) (asked : Asked) (target : ObjectId) (group : List (ObjectId × ℕ))
@@ -140,7 +152,10 @@ pub record Mends (old new : ReplicaState) (asked : Asked) (target : ObjectId) (g
       → is_below (latest_of (entries_of object asked.sets)) (own_latest old object) ≡ false
   pub above : (object : ObjectId) → MendsOn target group object
       → is_below (own_latest old object) (candidates object).stamp ≡ true
-  pub whole : (object : ObjectId) → MendsOn target group object → IsOfGroup group (candidates object)
+  -- what is added has this whole group, which lists the stamp of each
+  pub whole : (object : ObjectId) → MendsOn target group object → (candidates object).group ≡ group
+  pub listed : (object other : ObjectId) → Names group object → Names group other
+      → member_on (candidates object) other ≡ Some (candidates other).stamp
   pub version : Option ObjState
   pub remedy : (object : ObjectId) → MendsOn target group object
       → IsRemedy old asked object (candidates object) version

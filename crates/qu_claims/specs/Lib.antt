@@ -24,4 +24,5 @@ pub mod Quorums
 pub mod Handled
 pub mod Groups
 pub mod Truth
+pub mod Together
 pub mod Quick

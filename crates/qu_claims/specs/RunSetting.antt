@@ -1,6 +1,5 @@
 -- What the replicas of a run accept over time, as the theory of what is decided speaks of it.
--- Only correct replicas count: a faulty one accepts nothing. An operation names one object, so that no candidate that
--- is accepted has a group (`no_group_yet`, `qu_laws`).
+-- Only correct replicas count: a faulty one accepts nothing.
 -- Definitions whose comment names no source are this project's own; Query/Update is the paper of SOSP 2005.
 use Rattle.std.specs.Prelude.{not, nat_lt, length, is_some}
 use Rattle.qu_base.specs.Bounds.{replicas, quorum, repair}

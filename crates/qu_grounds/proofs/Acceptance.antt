@@ -1,21 +1,17 @@
 -- What a replica accepts upon a frame, and why: nothing, or one candidate on each object of an act.
-use Rattle.std.proofs.Common.{◌≡◌, ◌⊎◌, ℕ, Bool, true, false, cond, List, [], ◌∷◌, ◌++◌, map, length, Option, None, Some, inl, inr, refl, sym, subst, ap, ◌∙◌, arith, IsSome, ltb, ◌+◌, ◌≤◌, ltb-false}
-use Rattle.std.specs.Prelude.{find, nat_lt, option_and_then}
+use Rattle.std.proofs.Common.{◌≡◌, ◌⊎◌, ℕ, Bool, true, false, cond, List, [], ◌∷◌, ◌++◌, map, length, Option, None, Some, inl, inr, refl, sym, subst, ap, ◌∙◌, ltb, ◌+◌, ◌≤◌, ltb-false}
+use Rattle.std.specs.Prelude.{find, nat_lt}
 use Rattle.std.specs.List.{AllByRecursion}
 use Rattle.std.proofs.lemmas.Option.{none-some, same_Some}
 use Rattle.qu_base.specs.declared.party.ClientId.{ClientId}
-use Rattle.qu_base.specs.declared.party.Digest.{Digest}
 use Rattle.qu_base.specs.declared.party.ObjectId.{ObjectId}
-use Rattle.qu_stamp.specs.declared.stamp.Stamp.{Stamp}
 use Rattle.qu_stamp.specs.declared.candidate.Candidate.{Candidate}
 use Rattle.qu_stamp.specs.Stamp.{is_below}
 use Rattle.qu_class.specs.Repairable.{object_base as object_base}
 use Rattle.qu_history.specs.declared.sets.SetOf.{SetOf}
 use Rattle.qu_history.specs.Culling.{culled}
-use Rattle.qu_history.specs.History.{ObjectHistory}
-use Rattle.qu_history.specs.Sets.{latest_of, entries_of, order_of}
+use Rattle.qu_history.specs.Sets.{latest_of, entries_of}
 use Rattle.qu_objects.specs.declared.state.ObjState.{ObjState}
-use Rattle.qu_kept.specs.declared.repeats.Standing.TheVariants.{Fresh}
 use Rattle.qu_frames.specs.declared.frame.Body.TheVariants as body
 use Rattle.qu_frames.specs.declared.frame.Frame.{Frame}
 use Rattle.qu_frames.specs.declared.frame.Frame.TheVariants as frame
@@ -30,171 +26,33 @@ use Rattle.qu_fitting.specs.Holding.{accept, accept_all}
 use Rattle.qu_rows.specs.Rows.{Asked, asked_at, refuse, shown_of, decision_on, row_few, decide_repair, mend_asked, wanted_version, row_thin, part_of, parts_of, decision_by, mending_on}
 use Rattle.qu_mends.specs.Table.{first_given}
 use Rattle.qu_replica.specs.Step.{carried_out, replica_on_frame}
-use Rattle.qu_versions.specs.Versions.{version_at}
 use Rattle.qu_rows.specs.Allowed.{HasParts, MayAccept, MayAcceptAll}
 use Rattle.qu_fitting.proofs.Accepting.{other_history}
 use Rattle.qu_rows.proofs.Allowed.{decision_on-may, unmapped}
-use Rattle.qu_claims.specs.Grounds.{Accepts, IsMade, IsRemedy, made_stamp, IsFound}
+use Rattle.qu_claims.specs.Grounds.{Accepts, IsRemedy}
 use Rattle.qu_mends.specs.declared.mending.Mending.{Mending}
 use Rattle.qu_mends.specs.declared.mending.Mending.TheVariants as mending
 use Rattle.qu_mends.specs.declared.mend.Mend.{Mend}
-use Rattle.qu_mends.specs.declared.remedy.Remedy.{Remedy}
-use Rattle.qu_mends.specs.declared.remedy.Remedy.TheVariants.{Shown, Fresh}
-use Rattle.qu_class.specs.declared.class.Class.{Class}
-use Rattle.qu_class.specs.declared.class.Class.TheVariants as class
-use Rattle.qu_mends.specs.Remedy.{copy_by, remedy_by, remedy_of, group_of, member_remedy, remedies_by, fresh_repair as fresh_candidate, wanted_by}
-use Rattle.qu_mends.specs.Causes.{MakesCandidate, AddsVersion, IsPartAdded, ArePartsAdded, HasCause}
-use Rattle.qu_class.specs.Rows.{AreWellFormed, IsGreatestOfKind, IsLatestOfKind, AllShown}
-use Rattle.qu_class.proofs.OfKind.{base_is_greatest}
-use Rattle.qu_class.specs.Plan.{lowest_other}
-use Rattle.qu_base.specs.Bounds.{quorum, repair}
+use Rattle.qu_mends.specs.declared.remedy.Remedy.TheVariants.{Shown}
+use Rattle.qu_mends.specs.Remedy.{remedy_of, group_of, member_remedy, remedies_by}
+use Rattle.qu_mends.specs.Causes.{IsPartAdded, ArePartsAdded, HasCause}
+use Rattle.qu_class.specs.Rows.{AreWellFormed, IsGreatestOfKind, AllShown}
+use Rattle.qu_class.proofs.OfKind.{base_is_greatest, held_if_repairable}
+use Rattle.qu_stamp.specs.Group.{is_group}
+use Rattle.qu_grounds.proofs.Formed.{AreGrouped}
+use Rattle.qu_base.specs.Bounds.{quorum}
 use Rattle.qu_class.specs.Class.{class_in}
-use Rattle.qu_class.proofs.GroupRule.{OwnTells, own_tells}
-use Rattle.qu_class.proofs.BaseOfClass.{barrier_has_base}
+use Rattle.qu_class.proofs.GroupRule.{own_tells}
 use Rattle.qu_mends.proofs.Members.{IsShownWith, group_shown, group_agrees}
 use Rattle.qu_rows.proofs.MendedObjects.{mending_has_cause, enough_in_sets}
-use Rattle.qu_grounds.proofs.GroupAcceptance.{IsJoinedAt, AddsGroup, joined, all_joined, adds_group}
-use Rattle.qu_grounds.proofs.ActAcceptance.{accepted_in, AcceptsNothing, unknown, thin, version, full, past, ask_accepts, carried, may_accept, candidates_after, stays, act_moves, alike_candidates}
+use Rattle.qu_grounds.proofs.Remedies.{inlined, wanted_plain, remedy_is, adds_alone}
+use Rattle.qu_grounds.proofs.GroupAcceptance.{IsJoinedAt, AddsGroup, joined, all_joined, adds_group, group_stamps}
+use Rattle.qu_grounds.proofs.ActAcceptance.{accepted_in, AcceptsNothing, unknown, thin, version, past, ask_accepts, carried, may_accept, candidates_after, stays, act_moves, alike_candidates}
 use Rattle.qu_replica.specs.Growth.{HoldsAlike}
 use Rattle.qu_rows.specs.Waiting.{TakenRequest, request_frame_of}
 use Rattle.qu_frames.specs.declared.frame.Body.{Body}
 
 -- ---- a repair
-
--- what is wanted of a remedy's version is what the replica has under its stamp
-module _ (state : ReplicaState) (asked : Asked) (target : ObjectId) where
-  abbrev entries : List ObjectHistory
-  entries = entries_of target asked.sets
-
-  abbrev bounds : ℕ
-  bounds = state.keys.bounds
-
-  abbrev mend : Mend
-  mend = mend_asked state asked target
-
-  -- the same request, where its remedy is this one
-  abbrev mend_by : Remedy → Mend
-  mend_by remedy = record mend { remedy = remedy }
-
-  found_version : (found : Option ObjState) → IsSome found → (version : ObjState) × (found ≡ Some version)
-  found_version None some = absurd (grind (arith, some))
-  found_version (Some version) some = (version, refl)
-
-  module _ (no_act : asked.act ≡ None) where
-    -- a fresh candidate is made upon the object candidate
-    is_made : (barrier : Bool) (candidate : Candidate)
-        → candidate ≡ fresh_candidate mend mend.latest barrier (object_base bounds entries).stamp
-        → IsMade bounds asked target candidate
-    is_made barrier candidate is =
-        let stamp : candidate.stamp ≡ made_stamp asked target barrier =
-        ap (λ (it : Candidate). it.stamp) is
-        ∙ ap (λ (act : Option Digest). record {
-          time = (latest_of entries).time + 1;
-          barrier = barrier;
-          client = asked.client;
-          act = act;
-          set = asked.set;
-        }) (sym no_act) in
-        record {
-          stamp = stamp ∙ ap (made_stamp asked target) (sym (ap (λ (it : Stamp). it.barrier) stamp));
-          prior = ap (λ (it : Candidate). it.prior) is;
-          group = ap (λ (it : Candidate). it.group) is;
-        }
-
-    is_fresh_kind : (barrier : Bool) (prior : Stamp) (candidate : Candidate)
-        → candidate ≡ fresh_candidate mend mend.latest barrier prior
-        → candidate.stamp.barrier ≡ barrier
-    is_fresh_kind barrier prior candidate is = ap (λ (it : Candidate). it.stamp.barrier) is
-
-    copied : (candidate : Candidate) (latest : Candidate) (found stored : Option ObjState)
-        → candidate ≡ fresh_candidate mend mend.latest false (object_base bounds entries).stamp
-        → IsLatestOfKind bounds entries true latest → quorum bounds ≤ order_of latest entries
-        → version_at target (object_base bounds entries).stamp state.versions ≡ found → IsSome found → stored ≡ found
-        → IsRemedy state asked target candidate stored
-    copied candidate latest found stored is of_kind full found_is some stored_is =
-        let version : (it : ObjState) × (found ≡ Some it) = found_version found some in
-        subst (IsRemedy state asked target candidate) (sym (stored_is ∙ version.1))
-        (IsRemedy.copy latest version.0 (is_fresh_kind false _ candidate is) (is_made false candidate is)
-        ((of_kind.greatest).repairable).kind of_kind.latest full
-        (ap (λ (stamp : Stamp). version_at target stamp state.versions) (ap (λ (it : Candidate). it.prior) is)
-        ∙ found_is ∙ version.1))
-
-    found_so : (barrier : Bool) (candidate shown : Candidate) → candidate ≡ shown
-        → IsLatestOfKind bounds entries barrier shown → IsFound bounds asked target candidate
-    found_so barrier candidate shown is of_kind = record {
-      latest = ap (λ (it : Candidate). it.stamp) is ∙ of_kind.latest;
-      order = subst (λ (it : Candidate). repair bounds ≤ order_of it entries) (sym is)
-          ((of_kind.greatest).repairable).order;
-    }
-
-    shown_kind : (barrier : Bool) (candidate shown : Candidate) → candidate ≡ shown
-        → IsLatestOfKind bounds entries barrier shown → candidate.stamp.barrier ≡ barrier
-    shown_kind barrier candidate shown is of_kind =
-        ap (λ (it : Candidate). it.stamp.barrier) is ∙ ((of_kind.greatest).repairable).kind
-
-    inlined : (candidate shown : Candidate) (found stored : Option ObjState) → candidate ≡ shown
-        → IsLatestOfKind bounds entries false shown
-        → version_at target shown.stamp state.versions ≡ found → IsSome found → stored ≡ None
-        → IsRemedy state asked target candidate stored
-    inlined candidate shown found stored is of_kind found_is some stored_is =
-        let version : (it : ObjState) × (found ≡ Some it) = found_version found some in
-        subst (IsRemedy state asked target candidate) (sym stored_is)
-        (IsRemedy.inline_method version.0 (shown_kind false candidate shown is of_kind)
-        (found_so false candidate shown is of_kind)
-        (ap (λ (it : Candidate). version_at target it.stamp state.versions) is ∙ found_is ∙ version.1))
-
-    -- the version that is wanted of a candidate without barrier
-    wanted_plain : (shown : Candidate) → shown.stamp.barrier ≡ false
-        → wanted_version state target (Shown shown) ≡ version_at target shown.stamp state.versions
-    unfolding wanted_by
-    wanted_plain shown plain =
-        ap (λ (barrier : Bool). option_and_then (λ (stamp : Stamp). version_at target stamp state.versions)
-        (cond barrier None (Some shown.stamp))) plain
-
-    wanted_copied : (prior : Stamp)
-        → wanted_version state target (Fresh false prior) ≡ version_at target prior state.versions
-    unfolding wanted_by
-    wanted_copied prior = refl
-
-    -- a copy is made where its plan needs no other object
-    copied_by : (candidate : Candidate) (stored : Option ObjState) (other : Option ObjectId) (latest : Candidate)
-        → IsLatestOfKind bounds entries true latest → quorum bounds ≤ order_of latest entries
-        → MakesCandidate mend mend.latest (copy_by (object_base bounds entries).stamp other) candidate
-        → AddsVersion (copy_by (object_base bounds entries).stamp other)
-        (wanted_version state target (copy_by (object_base bounds entries).stamp other)) stored
-        → IsRemedy state asked target candidate stored
-    copied_by candidate stored None latest of_kind full makes has =
-        copied candidate latest (wanted_version state target (Fresh false (object_base bounds entries).stamp)) stored
-        makes.0 of_kind full (sym (wanted_copied (object_base bounds entries).stamp)) has.0 has.1
-    copied_by candidate stored (Some other) latest of_kind full makes has = absurd makes
-
-    -- what the class makes of the object
-    remedy_is : (class : Class) → class_in bounds asked.sets target ≡ class → OwnTells bounds asked.sets target class
-        → (candidate : Candidate) (stored : Option ObjState)
-        → MakesCandidate mend mend.latest (remedy_by target (object_base bounds entries) class) candidate
-        → AddsVersion (remedy_by target (object_base bounds entries) class)
-        (wanted_version state target (remedy_by target (object_base bounds entries) class)) stored
-        → IsRemedy state asked target candidate stored
-    unfolding remedy_by
-    remedy_is (class.Method base) is tells candidate stored never has = absurd never
-    remedy_is (class.InlineMethod shown) is tells candidate stored makes has =
-        inlined candidate shown (wanted_version state target (Shown shown)) stored makes.0 tells.0
-        (sym (wanted_plain shown (((tells.0).greatest).repairable).kind))
-        (has.0 (((tells.0).greatest).repairable).kind) has.1
-    remedy_is class.Copy is tells candidate stored makes has =
-        copied_by candidate stored (lowest_other target (object_base bounds entries).group) tells.0 tells.1 tells.2
-        makes has
-    remedy_is (class.InlineBarrier shown) is tells candidate stored makes has =
-        subst (IsRemedy state asked target candidate) (sym has.1)
-        (IsRemedy.inline_barrier (shown_kind true candidate shown makes.0 tells.0)
-        (found_so true candidate shown makes.0 tells.0))
-    remedy_is (class.Barrier prior) is tells candidate stored makes has =
-        let upon : prior ≡ (object_base bounds entries).stamp =
-        barrier_has_base bounds asked.sets target prior (sym is) in
-        subst (IsRemedy state asked target candidate) (sym has)
-        (IsRemedy.barrier (is_fresh_kind true prior candidate makes.0)
-        (is_made true candidate (makes.0 ∙ ap (fresh_candidate mend mend.latest true) upon)))
-    remedy_is (class.Needs member) is tells candidate stored never has = absurd never
 
 -- what a replica adds to mend an object
 record AddsOne (state : ReplicaState) (asked : Asked) (target : ObjectId) (accepted : List Accepted) : Type 0 where
@@ -202,6 +60,7 @@ record AddsOne (state : ReplicaState) (asked : Asked) (target : ObjectId) (accep
   version : Option ObjState
   current : is_below (latest_of (shown_of asked target)) (own_latest state target) ≡ false
   above : is_below (own_latest state target) candidate.stamp ≡ true
+  whole : candidate.group ≡ []
   remedy : IsRemedy state asked target candidate version
   alone : accepted ≡ record { object = target; candidate = candidate; state = version } ∷ []
 
@@ -218,6 +77,7 @@ AddsSomeOrNone state asked target accepted =
 
 module _ (state : ReplicaState) (asked : Asked) (no_act : asked.act ≡ None)
     (formed : (object : ObjectId) → AreWellFormed state.keys.bounds (shown_of asked object))
+    (grouped : (object : ObjectId) → AreGrouped (shown_of asked object))
     (fat : find (λ (set : SetOf). nat_lt (length set.entries) (quorum state.keys.bounds)) asked.sets ≡ None)
     (target : ObjectId) (enough : quorum state.keys.bounds ≤ length (shown_of asked target)) where
   abbrev asked_mend : Mend
@@ -229,16 +89,28 @@ module _ (state : ReplicaState) (asked : Asked) (no_act : asked.act ≡ None)
   abbrev base_on : ObjectId → Candidate
   base_on object = object_base own_bounds (shown_of asked object)
 
-  one_added : (one : Accepted) → IsPartAdded asked_mend (part_of state asked (target, asked_mend.remedy)) one
+  -- the object candidate of the target has a group, or stands alone
+  base_grouped : is_group (base_on target).group ≡ true
+  base_grouped =
+      let greatest : IsGreatestOfKind own_bounds (shown_of asked target) false (base_on target) =
+      base_is_greatest own_bounds (shown_of asked target) (formed target) enough in
+      (grouped target (base_on target) (held_if_repairable own_bounds (shown_of asked target) (formed target)
+      (base_on target) (greatest.repairable).order)).whole
+
+  one_added : (one : Accepted) → group_of (class_in own_bounds asked.sets target) ≡ []
+      → IsPartAdded asked_mend (part_of state asked (target, asked_mend.remedy)) one
       → AddsOne state asked target (one ∷ [])
   unfolding remedy_of
-  one_added one added = record {
+  one_added one none added = record {
     candidate = one.candidate;
     version = one.state;
     current = (added.may).current;
     above = (added.may).above;
+    whole = adds_alone state asked target no_act (class_in own_bounds asked.sets target)
+        (own_tells own_bounds asked.sets target (formed target) enough) (formed target) (grouped target) none
+        one.candidate added.makes;
     remedy = remedy_is state asked target no_act (class_in own_bounds asked.sets target) refl
-        (own_tells own_bounds asked.sets target (formed target) enough) one.candidate one.state added.makes
+        (own_tells own_bounds asked.sets target (formed target) enough) base_grouped one.candidate one.state added.makes
         added.version;
     alone = ap (λ (it : ObjectId). record { object = it; candidate = one.candidate; state = one.state } ∷ [])
         added.object;
@@ -296,7 +168,7 @@ module _ (state : ReplicaState) (asked : Asked) (no_act : asked.act ≡ None)
       → AddsSome state asked target accepted
   unfolding remedies_by
   by_group [] is [] added = absurd added
-  by_group [] is (one ∷ []) added = inl (one_added one added.0)
+  by_group [] is (one ∷ []) added = inl (one_added one is added.0)
   by_group [] is (one ∷ second ∷ more) added = absurd added.1
   by_group (member ∷ later) is accepted added =
       let group : List (ObjectId × ℕ) = member ∷ later in
@@ -304,7 +176,9 @@ module _ (state : ReplicaState) (asked : Asked) (no_act : asked.act ≡ None)
       (subst (AllShown asked.sets) is
       (group_shown own_bounds asked.sets target (class_in own_bounds asked.sets target) refl))
       (group_agrees own_bounds asked.sets target (class_in own_bounds asked.sets target) member later refl is) added in
-      inr (member, later, record { all = both.0; each = both.1 })
+      let listed =
+      group_stamps own_bounds asked.sets target (class_in own_bounds asked.sets target) member later refl is in
+      inr (member, later, record { all = both.0; each = both.1; first = listed.0; stamps = listed.1 })
 
   mended : (made : Mending) → HasCause asked_mend (parts_of state asked target) made
       → AddsSomeOrNone state asked target (accepted_in (decision_by target made))
@@ -345,15 +219,16 @@ not_thin state asked none = unmapped (λ (set : SetOf). refuse (refusal.Thin set
 
 repair_accepts : (state : ReplicaState) (asked : Asked) (target : ObjectId) → asked.act ≡ None
     → ((object : ObjectId) → AreWellFormed state.keys.bounds (shown_of asked object))
+    → ((object : ObjectId) → AreGrouped (shown_of asked object))
     → AddsSomeOrNone state asked target (accepted_in (decide_repair state asked target))
 unfolding decide_repair
-repair_accepts state asked target no_act formed =
+repair_accepts state asked target no_act formed grouped =
     let most : List Accepted → Type 0 = λ accepted. AddsSomeOrNone state asked target accepted in
     past most _ _ (inl refl) (unknown state asked) (λ _.
     past most _ _ (inl refl) (thin state asked) (λ fat.
     past most _ _ (inl refl) (few state asked target) (λ enough.
     at_last most (decision_by target (mending_on state asked target))
-    (mended state asked no_act formed (not_thin state asked fat) target (not_few state asked target enough)
+    (mended state asked no_act formed grouped (not_thin state asked fat) target (not_few state asked target enough)
     (mending_on state asked target) (mending_has_cause state asked target)))))
 
 adds : (state new : ReplicaState) (client : ClientId) (number round : ℕ) (sent : List SetOf) (mac : List ℕ)
@@ -397,7 +272,8 @@ adds state new client number round sent mac target accepted may enough made is_n
             (own_latest state it) ≡ false) is made.current;
         above = λ object is. subst
             (λ (it : ObjectId). is_below (own_latest state it) made.candidate.stamp ≡ true) is made.above;
-        whole = λ object is. tt;
+        whole = λ object is. made.whole;
+        listed = λ object other never besides. absurd never;
         version = made.version;
         remedy = λ object is. subst
             (λ (it : ObjectId). IsRemedy state (asked_at state client number sent (body.Mend target)) it
@@ -409,10 +285,11 @@ adds state new client number round sent mac target accepted may enough made is_n
 mend_moves : (state : ReplicaState) (client : ClientId) (number round : ℕ) (sets : List SetOf) (mac : List ℕ)
     (target : ObjectId)
     → ((object : ObjectId) → AreWellFormed state.keys.bounds (entries_of object (culled state.keys state.me sets)))
+    → ((object : ObjectId) → AreGrouped (entries_of object (culled state.keys state.me sets)))
     → HoldsAlike (replica_on_frame state (frame.Request client number round sets (body.Mend target) mac)).0 state
     ⊎ Accepts state (replica_on_frame state (frame.Request client number round sets (body.Mend target) mac)).0
     (frame.Request client number round sets (body.Mend target) mac)
-mend_moves state client number round sets mac target formed =
+mend_moves state client number round sets mac target formed grouped =
     let asked : Asked = asked_at state client number sets (body.Mend target) in
     let decision : Decision = decide_repair state asked target in
     let request : TakenRequest = record {
@@ -425,7 +302,7 @@ mend_moves state client number round sets mac target formed =
     } in
     let new : ReplicaState = (carried_out state request decision).0 in
     let is_new : HoldsAlike new (accept_all state (accepted_in decision)) = carried state request decision in
-    elim (repair_accepts state asked target refl formed) [
+    elim (repair_accepts state asked target refl formed grouped) [
       | inl none ↦ inl (stays state new (accepted_in decision) is_new none)
       | inr made ↦
           let may : MayAcceptAll state (accepted_in decision) =
@@ -440,10 +317,11 @@ mend_moves state client number round sets mac target formed =
 
 -- ---- any request
 
--- a replica can tell the classes of what the frame shows it
+-- a replica can tell the classes of what the frame shows it, and the candidates have groups
 abbrev pub IsFormed : ReplicaState → Frame → Type 0
-IsFormed state (frame.Request client number round sets asks mac) =
-    (object : ObjectId) → AreWellFormed state.keys.bounds (entries_of object (culled state.keys state.me sets))
+IsFormed state (frame.Request client number round sets asks mac) = (object : ObjectId)
+    → AreWellFormed state.keys.bounds (entries_of object (culled state.keys state.me sets))
+    × AreGrouped (entries_of object (culled state.keys state.me sets))
 IsFormed state _ = Unit {0}
 
 -- a request leaves a replica with what it holds, or adds candidates for which there are grounds
@@ -469,7 +347,7 @@ fields_move state client number round sets (body.Ask asks) mac parts formed =
     inl (stays state (carried_out state request decision).0 (accepted_in decision) (carried state request decision)
     (ask_accepts state asked asks _))
 fields_move state client number round sets (body.Mend target) mac parts formed =
-    mend_moves state client number round sets mac target formed
+    mend_moves state client number round sets mac target (λ object. (formed object).0) (λ object. (formed object).1)
 
 pub step_moves : (state : ReplicaState) (request : TakenRequest) → HasParts (request_frame_of request)
     → IsFormed state (request_frame_of request)

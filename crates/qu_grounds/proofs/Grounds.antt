@@ -13,10 +13,10 @@ use Rattle.qu_stamp.proofs.Order.{is_below-self, is_below-not_chain, equal_by_sa
 use Rattle.qu_history.specs.History.{ObjectHistory, holds}
 use Rattle.qu_history.specs.Sets.{entries_of, order_of, latest_of, object_candidate, if_method, method_at}
 use Rattle.qu_history.proofs.Stamps.{not_below_latest}
-use Rattle.qu_rows.specs.Rows.{Asked, fresh_stamp, asked_of, act_asked}
+use Rattle.qu_rows.specs.Rows.{Asked, fresh_stamp, asked_of, act_asked, objects_of}
 use Rattle.qu_class.specs.Repairable.{object_base}
 use Rattle.qu_rows.specs.State.{ReplicaState, own_candidates, own_latest}
-use Rattle.qu_claims.specs.Grounds.{IsGround, Reasons, AddsTo, IsMade, IsFound, made_stamp, Performs, IsRemedy, Mends, MendsOn, IsOfGroup}
+use Rattle.qu_claims.specs.Grounds.{IsGround, Reasons, AddsTo, IsMade, made_on, IsFound, made_stamp, Performs, IsRemedy, Mends}
 use Rattle.qu_rows.proofs.Allowed.{fresh_later}
 use Rattle.qu_frames.specs.declared.frame.Body.{Body}
 use Rattle.qu_base.specs.declared.party.ClientId.{ClientId}
@@ -81,8 +81,18 @@ below_by_latest held latest fresh not_above later =
       | inr not_below ↦ absurd (false≢true (sym (is_below-not_chain latest held fresh not_above not_below) ∙ later))
     ]
 
-module _ {state : ReplicaState} {asked : Asked} {object : ObjectId} {candidate base : Candidate}
-    (grounds : IsGround state asked object candidate base) where
+-- what an act would make is above all that a replica has, where it has nothing above what is shown
+pub fresh_above : (state : ReplicaState) (asked : Asked) (object : ObjectId)
+    → is_below (latest_of (entries_of object asked.sets)) (own_latest state object) ≡ false → (held : Candidate)
+    → holds held (own_candidates state object) ≡ true → is_below held.stamp (fresh_stamp asked object) ≡ true
+fresh_above state asked object current held holding =
+    below_by_latest held.stamp (own_latest state object) (fresh_stamp asked object)
+    (not_below_latest (own_candidates state object) held holding)
+    (fresh_later (latest_of (entries_of object asked.sets)) (own_latest state object) (fresh_stamp asked object) refl
+    current)
+
+module _ {state : ReplicaState} {asked : Asked} {objects : List ObjectId} {object : ObjectId}
+    {candidate base : Candidate} (grounds : IsGround state asked objects object candidate base) where
   -- the base is the latest of what is shown
   pub base_latest : base.stamp ≡ latest_of (entries_of object asked.sets)
   base_latest = (is_base state.keys.bounds (entries_of object asked.sets) base grounds.method).latest
@@ -101,12 +111,6 @@ module _ {state : ReplicaState} {asked : Asked} {object : ObjectId} {candidate b
       ap (λ (stamp : Stamp). is_below (own_latest state object) stamp) grounds.stamp ∙
       fresh_later (latest_of (entries_of object asked.sets)) (own_latest state object) (fresh_stamp asked object)
       refl grounds.current
-
-  pub above_held : (held : Candidate) → holds held (own_candidates state object) ≡ true
-      → is_below held.stamp candidate.stamp ≡ true
-  above_held held holding =
-      below_by_latest held.stamp (own_latest state object) candidate.stamp
-      (not_below_latest (own_candidates state object) held holding) above_own
 
   -- the replica holds nothing above the base
   pub base_not_below : (held : Candidate) → holds held (own_candidates state object) ≡ true
@@ -137,46 +141,41 @@ module _ (old new : ReplicaState) (asked : Asked) (group : List (ObjectId × ℕ
         below_by_latest held.stamp (own_latest old object) (candidates object).stamp
         (not_below_latest (own_candidates old object) held holding) (above_added asks reasons object adds)
 
-    -- the replica made it, or was shown it
+    -- the replica made it, with what it made on the other objects, or was shown it
     pub made_or_found : (asks : Body) → Reasons old new asked asks group candidates → (object : ObjectId)
-        → AddsTo asks group object → IsMade old.keys.bounds asked object (candidates object)
+        → AddsTo asks group object → IsMade old.keys.bounds asked (made_on asks) object (candidates object)
         ⊎ IsFound old.keys.bounds asked object (candidates object)
     made_or_found (body.Act parts) reasons object names =
-        let grounds : IsGround old asked object (candidates object) (reasons.bases object) =
+        let grounds : IsGround old asked (objects_of parts) object (candidates object) (reasons.bases object) =
         reasons.grounds object names in
         inl (record {
           stamp = grounds.stamp
               ∙ ap (made_stamp asked object) (sym (ap (λ (it : Stamp). it.barrier) grounds.stamp));
           prior = grounds.prior
               ∙ ap (λ (it : Candidate). it.stamp)
-              (sym (base_of_method old.keys.bounds (entries_of object asked.sets) (reasons.bases object) grounds.method));
+              (sym (base_of_method old.keys.bounds (entries_of object asked.sets) (reasons.bases object)
+              grounds.method));
           group = grounds.group;
         })
     made_or_found (body.Ask parts) reasons object never = absurd never
     made_or_found (body.Mend target) reasons object mended =
         by_remedy object (candidates object) reasons.version (reasons.remedy object mended)
       where
-        by_remedy : (target : ObjectId) (candidate : Candidate) (version : Option ObjState)
-            → IsRemedy old asked target candidate version
-            → IsMade old.keys.bounds asked target candidate ⊎ IsFound old.keys.bounds asked target candidate
-        by_remedy target candidate version (IsRemedy.inline_barrier barrier found) = inr found
-        by_remedy target candidate version (IsRemedy.inline_method state plain found stored) = inr found
-        by_remedy target candidate version (IsRemedy.barrier barrier made) = inl made
-        by_remedy target candidate version (IsRemedy.copy latest state plain made barrier is_latest full stored) = inl
-            made
+        alone : (mended : ObjectId) (candidate : Candidate)
+            → IsMade old.keys.bounds asked (mended ∷ []) mended candidate
+            → IsMade old.keys.bounds asked (target ∷ []) mended candidate
+        alone mended candidate made = record { stamp = made.stamp; prior = made.prior; group = made.group }
 
-    -- what has no group is added alone, or for an act
-    pub added_alone : (asks : Body) → Reasons old new asked asks group candidates → (object : ObjectId)
-        → AddsTo asks group object → (candidates object).group ≡ [] → AddsTo asks [] object
-    added_alone (body.Act parts) reasons object names alone = names
-    added_alone (body.Ask parts) reasons object never alone = never
-    added_alone (body.Mend target) reasons object mended alone =
-        by_group group mended (reasons.whole object mended)
-      where
-        by_group : (members : List (ObjectId × ℕ)) → MendsOn target members object
-            → IsOfGroup members (candidates object) → target ≡ object
-        by_group [] is whole = is
-        by_group (member ∷ later) named whole = absurd (cons-nil member later (sym whole ∙ alone))
+        by_remedy : (mended : ObjectId) (candidate : Candidate) (version : Option ObjState)
+            → IsRemedy old asked mended candidate version
+            → IsMade old.keys.bounds asked (target ∷ []) mended candidate
+            ⊎ IsFound old.keys.bounds asked mended candidate
+        by_remedy mended candidate version (IsRemedy.inline_barrier barrier found) = inr found
+        by_remedy mended candidate version (IsRemedy.inline_method state plain found stored) = inr found
+        by_remedy mended candidate version (IsRemedy.barrier barrier made) = inl (alone mended candidate made)
+        by_remedy mended candidate version
+            (IsRemedy.copy latest state plain made single barrier is_latest full stored) =
+            inl (alone mended candidate made)
 
 -- with the objects of a group no version is stored
 pub group_stores_none : (old new : ReplicaState) (asked : Asked) (target : ObjectId) (member : ObjectId × ℕ)
@@ -190,7 +189,7 @@ group_stores_none old new asked target member later candidates mends =
     by_remedy candidate version whole (IsRemedy.inline_barrier barrier found) = refl
     by_remedy candidate version whole (IsRemedy.inline_method state plain found stored) = refl
     by_remedy candidate version whole (IsRemedy.barrier barrier made) = refl
-    by_remedy candidate version whole (IsRemedy.copy latest state plain made barrier is_latest full stored) =
+    by_remedy candidate version whole (IsRemedy.copy latest state plain made single barrier is_latest full stored) =
         absurd (cons-nil member later (sym whole ∙ made.group))
 
 -- what has an act's digest was made for an act

@@ -1,15 +1,25 @@
 -- What a replica accepts on all objects of a group upon a request to mend one of them: the candidates that it is shown.
-use Rattle.std.proofs.Common.{◌≡◌, ◌==◌, ℕ, Bool, true, false, cond, List, [], ◌∷◌, ◌++◌, map, length, Option, None, Some, inl, inr, refl, sym, ap, subst, ◌∙◌, ◌≤◌}
-use Rattle.std.specs.List.{AllByRecursion}
-use Rattle.std.proofs.lemmas.Bool.{false≢true, eqb-true, eq-eqb}
+use Rattle.std.proofs.Common.{◌≡◌, ◌==◌, ℕ, Bool, true, false, cond, List, [], ◌∷◌, ◌++◌, map, length, Option, None, Some, inl, inr, refl, sym, ap, subst, ◌∙◌, ◌≤◌, arith}
+use Rattle.std.specs.Prelude.{find, option_map}
+use Rattle.std.specs.List.{AllByRecursion, list_all}
+use Rattle.std.proofs.lemmas.Bool.{false≢true, and_parts, eqb-true, eq-eqb}
 use Rattle.qu_base.specs.Bounds.{quorum}
 use Rattle.qu_base.specs.declared.party.ObjectId.{ObjectId}
+use Rattle.qu_stamp.specs.declared.stamp.Stamp.{Stamp}
 use Rattle.qu_stamp.specs.declared.candidate.Candidate.{Candidate}
-use Rattle.qu_stamp.specs.Stamp.{is_below}
-use Rattle.qu_history.specs.Sets.{latest_of}
+use Rattle.qu_stamp.specs.Candidate.{member as member_on}
+use Rattle.qu_stamp.specs.Group.{is_group}
+use Rattle.qu_stamp.specs.Stamp.{is_below, same_stamp}
+use Rattle.qu_stamp.proofs.Order.{equal_by_same_stamp}
+use Rattle.qu_history.specs.Sets.{latest_of, entries_of}
 use Rattle.qu_history.specs.declared.sets.SetOf.{SetOf}
 use Rattle.qu_history.specs.Culling.{culled}
+use Rattle.qu_class.specs.declared.class.Class.{Class}
+use Rattle.qu_class.specs.declared.class.Class.TheVariants.{Method, InlineMethod, Copy, InlineBarrier, Barrier, Needs}
+use Rattle.qu_class.specs.Class.{agrees, is_latest, listed_stamp, class_in}
 use Rattle.qu_class.specs.Repairable.{object_base}
+use Rattle.qu_mends.specs.Remedy.{group_of}
+use Rattle.qu_mends.proofs.Members.{inline_joined}
 use Rattle.qu_frames.specs.declared.frame.Body.TheVariants as body
 use Rattle.qu_frames.specs.declared.frame.Frame.TheVariants as frame
 use Rattle.qu_base.specs.declared.party.ClientId.{ClientId}
@@ -25,6 +35,7 @@ use Rattle.qu_replica.specs.Growth.{HoldsAlike}
 use Rattle.qu_claims.specs.Parts.{Names}
 use Rattle.qu_claims.specs.Grounds.{Accepts, IsRemedy}
 use Rattle.qu_grounds.proofs.ActAcceptance.{own_after, candidates_after}
+use Rattle.qu_grounds.proofs.Together.{time_in, time_is, member_is}
 
 -- what holds of each member holds of each object that they name
 each_member : (P : ObjectId → Type 0) (group : List (ObjectId × ℕ)) → AllByRecursion (λ member. P member.0) group
@@ -70,7 +81,10 @@ module _ (candidates : ObjectId → Candidate) where
   none_stored [] = refl
   none_stored (member ∷ later) = none_stored later
 
--- ---- the request
+-- ---- what is added on a group
+
+no_member : {X : Type 0} (item : X) (items : List X) → [] ≡ item ∷ items → ⊥
+no_member item items same = omega (arith, ap length same)
 
 -- the object candidate is added on an object
 pub record IsJoinedAt (state : ReplicaState) (asked : Asked) (group : List (ObjectId × ℕ)) (object : ObjectId)
@@ -81,11 +95,101 @@ pub record IsJoinedAt (state : ReplicaState) (asked : Asked) (group : List (Obje
   pub whole : (object_base state.keys.bounds (shown_of asked object)).group ≡ group
   pub remedy : IsRemedy state asked object (object_base state.keys.bounds (shown_of asked object)) None
 
+-- the object candidates of these objects have the stamps that the group of the first lists
+abbrev pub HaveListed : Candidate → (ObjectId → Candidate) → List (ObjectId × ℕ) → Type 0
+HaveListed first base members = AllByRecursion (λ member. (base member.0).stamp ≡ listed_stamp first member) members
+
 -- and on all objects of its group
 pub record AddsGroup (state : ReplicaState) (asked : Asked) (group : List (ObjectId × ℕ)) (accepted : List Accepted)
     : Type 0 where
   pub all : accepted ≡ all_joined (λ object. object_base state.keys.bounds (shown_of asked object)) group
   pub each : AllByRecursion (λ member. IsJoinedAt state asked group member.0) group
+  pub first : Candidate
+  pub stamps : HaveListed first (λ object. object_base state.keys.bounds (shown_of asked object)) group
+
+-- ---- the stamps that it lists
+
+module _ (first : Candidate) (base : ObjectId → Candidate) where
+  record HasListed (group : List (ObjectId × ℕ)) (object : ObjectId) : Type 0 where
+    time : ℕ
+    found : time_in object group ≡ Some time
+    is : (base object).stamp ≡ record first.stamp { time = time }
+
+  listed_of : (group : List (ObjectId × ℕ)) → HaveListed first base group → (object : ObjectId) → Names group object
+      → HasListed group object
+  listed_of [] stamps object names = absurd names
+  listed_of (member ∷ later) stamps object names =
+      by ((member.0).0 == object.0) refl names (listed_of later stamps.1 object)
+    where
+      by : (test : Bool) → ((member.0).0 == object.0) ≡ test → Names (member ∷ later) object
+          → (Names later object → HasListed later object) → HasListed (member ∷ later) object
+      by true is names rest = record {
+        time = member.1;
+        found = ap (λ (test : Bool). option_map (λ (it : ObjectId × ℕ). it.1)
+            (cond test (Some member) (find (λ (it : ObjectId × ℕ). (it.0).0 == object.0) later))) is;
+        is = subst (λ (it : ObjectId). (base it).stamp ≡ listed_stamp first member)
+            (ap (λ (number : ℕ). record { 0 = number }) (eqb-true _ _ is)) stamps.0;
+      }
+      by false is (inl same) rest =
+          absurd (false≢true (sym is ∙ eq-eqb _ _ (ap (λ (it : ObjectId). it.0) same)))
+      by false is (inr named) rest = record {
+        time = (rest named).time;
+        found = ap (λ (test : Bool). option_map (λ (it : ObjectId × ℕ). it.1)
+            (cond test (Some member) (find (λ (it : ObjectId × ℕ). (it.0).0 == object.0) later))) is
+            ∙ (rest named).found;
+        is = (rest named).is;
+      }
+
+  -- so each of them is a member of the others' groups
+  pub members_listed : (group : List (ObjectId × ℕ)) → HaveListed first base group → (object other : ObjectId)
+      → (base object).group ≡ group → Names group object → Names group other
+      → member_on (base object) other ≡ Some (base other).stamp
+  members_listed group stamps object other whole names besides =
+      let here : HasListed group object = listed_of group stamps object names in
+      let there : HasListed group other = listed_of group stamps other besides in
+      member_is (base object) (record first.stamp { time = here.time }) group other there.time here.is whole
+      (time_is other group ∙ there.found) ∙ ap (λ (it : Stamp). Some it) (sym there.is)
+
+-- ---- what agrees has them
+
+module _ (bounds : ℕ) (sets : List SetOf) where
+  abbrev base_on : ObjectId → Candidate
+  base_on object = object_base bounds (entries_of object sets)
+
+  agreeing_stamps : (first : Candidate) (members : List (ObjectId × ℕ))
+      → list_all (λ member. agrees bounds (entries_of member.0 sets) (listed_stamp first member) first.group) members
+      ≡ true → HaveListed first base_on members
+  agreeing_stamps first [] test = tt
+  agreeing_stamps first (member ∷ later) test =
+      let base : Candidate = base_on member.0 in
+      let both = and_parts (agrees bounds (entries_of member.0 sets) (listed_stamp first member) first.group) _ test in
+      let rest = and_parts (is_latest (entries_of member.0 sets) base) _ both.0 in
+      let stamps = and_parts (same_stamp base.stamp (listed_stamp first member)) _ rest.1 in (
+        equal_by_same_stamp base.stamp (listed_stamp first member) stamps.0,
+        agreeing_stamps first later both.1,
+      )
+
+  whole_is : (group : List (ObjectId × ℕ)) (test : Bool) (member : ObjectId × ℕ) (later : List (ObjectId × ℕ))
+      → cond test group [] ≡ member ∷ later → group ≡ member ∷ later
+  whole_is group true member later is = is
+  whole_is group false member later is = absurd (no_member member later is)
+
+  -- the object candidates of the group that is mended
+  pub group_stamps : (object : ObjectId) (class : Class) (member : ObjectId × ℕ) (later : List (ObjectId × ℕ))
+      → class_in bounds sets object ≡ class → group_of class ≡ member ∷ later
+      → (first : Candidate) × HaveListed first base_on (member ∷ later)
+  group_stamps object (Method candidate) member later is group = absurd (no_member member later group)
+  group_stamps object (InlineMethod candidate) member later is group = (
+    candidate,
+    subst (HaveListed candidate base_on) (whole_is candidate.group (is_group candidate.group) member later group)
+        (agreeing_stamps candidate candidate.group (inline_joined bounds sets object candidate is).1),
+  )
+  group_stamps object Copy member later is group = absurd (no_member member later group)
+  group_stamps object (InlineBarrier candidate) member later is group = absurd (no_member member later group)
+  group_stamps object (Barrier prior) member later is group = absurd (no_member member later group)
+  group_stamps object (Needs absent) member later is group = absurd (no_member member later group)
+
+-- ---- the request
 
 module _ (state new : ReplicaState) (client : ClientId) (number round : ℕ) (sent : List SetOf) (mac : List ℕ)
     (target : ObjectId) (accepted : List Accepted) (may : MayAcceptAll state accepted)
@@ -132,6 +236,9 @@ module _ (state new : ReplicaState) (client : ClientId) (number round : ℕ) (se
           current = λ object names. (each object names).current;
           above = λ object names. (each object names).above;
           whole = λ object names. (each object names).whole;
+          listed = λ object other names besides.
+              members_listed made.first candidates group made.stamps object other (each object names).whole names
+              besides;
           version = None;
           remedy = λ object names. (each object names).remedy;
           stored = is_new.versions ∙ ap (λ (it : ReplicaState). it.versions) (accept_all-is state accepted)

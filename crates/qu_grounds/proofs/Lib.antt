@@ -1,7 +1,9 @@
 pub mod Parts
 pub mod Formed
 pub mod Grounds
+pub mod Together
 pub mod ActAcceptance
 pub mod GroupAcceptance
+pub mod Remedies
 pub mod Acceptance
 pub mod Performed

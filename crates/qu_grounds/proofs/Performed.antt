@@ -176,8 +176,8 @@ remedy_plain state asked target candidate stored (IsRemedy.inline_method its pla
     found = plain
 remedy_plain state asked target candidate stored (IsRemedy.barrier barrier made) object under version found =
     absurd (none-some version found)
-remedy_plain state asked target candidate stored (IsRemedy.copy latest its plain made barrier is_latest full is) object
-    under version found = plain
+remedy_plain state asked target candidate stored
+    (IsRemedy.copy latest its plain made single barrier is_latest full is) object under version found = plain
 
 -- a candidate without barrier, with this stamp, that a request adds to the object
 pub record IsAddedUnder (asks : Body) (group : List (ObjectId × ℕ)) (candidates : ObjectId → Candidate)

@@ -5,11 +5,11 @@ use Rattle.std.proofs.lemmas.Bool.{false≢true}
 use Rattle.qu_base.specs.declared.party.ClientId.{ClientId}
 use Rattle.qu_base.specs.declared.party.ObjectId.{ObjectId}
 use Rattle.qu_base.specs.declared.party.Party.TheVariants as party
-use Rattle.qu_base.specs.Format.{AreBytes}
+use Rattle.qu_base.specs.Format.{AreBytes, FitsFrom}
 use Rattle.qu_history.specs.declared.sets.SetOf.{SetOf}
 use Rattle.qu_history.specs.Sealing.{sealed_by}
 use Rattle.qu_objects.specs.declared.act.Method.{Method}
-use Rattle.qu_objects.specs.Formats.{is_one_of, act_form}
+use Rattle.qu_objects.specs.Formats.{is_one_of, method_form, part_form, act_form}
 use Rattle.qu_frames.specs.declared.frame.Body.{Body}
 use Rattle.qu_frames.specs.declared.frame.Body.TheVariants as body
 use Rattle.qu_frames.specs.declared.frame.Frame.{Frame}
@@ -45,7 +45,6 @@ use Rattle.qu_runs.proofs.Fits.FitParts.{fits_parts}
 use Rattle.qu_runs.proofs.Fits.Fitting.{answers_fit}
 use Rattle.qu_claims.specs.Parts.{Names}
 use Rattle.qu_grounds.proofs.Acceptance.{step_moves}
-use Rattle.qu_grounds.proofs.Parts.{one_named}
 use Rattle.qu_claims.specs.Handled.{shown_in}
 use Rattle.qu_known.proofs.Lengths.{reply-short}
 use Rattle.qu_claims.specs.Grounds.{Accepts, AddsTo, Reasons}
@@ -82,14 +81,20 @@ pub record Shows (old : ReplicaState) (made : ReplicaState × List Letter) : Typ
 -- ---- the objects of a request
 
 -- the parts of a request are on objects of its sets
+parts_known : (known : ObjectId → Bool) (before : Option ObjectId) (parts : List (ObjectId × Method))
+    → FitsFrom (part_form method_form known) (λ part. Some part.0) before parts → (object : ObjectId)
+    → Names parts object → known object ≡ true
+parts_known known before [] fits object names = absurd names
+parts_known known before (part ∷ later) fits object (inl same) = ap known (sym same) ∙ fits.0.0.0.1
+parts_known known before (part ∷ later) fits object (inr named) =
+    parts_known known (Some part.0) later fits.1 object named
+
 part_in_sets : (sets : List SetOf) (parts : List (ObjectId × Method))
     → (body_form (objects_in_sets sets)).Fits (body.Act parts) → (object : ObjectId) → Names parts object
     → is_one_of (objects_in_sets sets) object ≡ true
 unfolding body_form act_form
-part_in_sets sets [] fits object names = absurd names
-part_in_sets sets (part ∷ []) fits object names =
-    ap (is_one_of (objects_in_sets sets)) (sym (one_named part object names)) ∙ fits.1.1.1.0.0.0.1
-part_in_sets sets (first ∷ second ∷ later) fits object names = absurd (omega (arith, ((fits.1).0).1))
+part_in_sets sets parts fits object names =
+    parts_known (is_one_of (objects_in_sets sets)) None parts (fits.1).1.1 object names
 
 -- sets that show an entry of an object are of it, also where they were culled
 shown_in_sets : (keys : Ring) (me : ReplicaId) (sets : List SetOf) (object : ObjectId)

@@ -1,18 +1,30 @@
 -- A run meets what is asked of all objects together, where no two digested texts have one digest.
-use Rattle.std.proofs.Common.{◌≡◌, ap, inl, inr, length, sym, true, ◌∙◌, ℕ, ◌+◌, arith}
+use Rattle.std.proofs.Common.{◌≡◌, ap, inl, inr, length, not, subst, suc, sym, true, Some, ◌∙◌, ℕ, ◌+◌, ◌<◌, ◌≤◌, arith}
+use Rattle.std.specs.Prelude.{is_some}
+use Rattle.std.proofs.lemmas.Bool.{cases_Bool, cases_lt}
+use Rattle.qu_stamp.proofs.Groups.{alone_has_no_member}
+use Rattle.qu_claims.specs.Count.{test_at}
+use Rattle.qu_claims.specs.Setting.{Apart, IsNew}
+use Rattle.qu_claims.specs.Times.{world_after}
+use Rattle.qu_claims.specs.Together.{AcceptsTogether, IsJoined}
+use Rattle.qu_world.specs.State.{WorldState}
+use Rattle.qu_chain.proofs.Arrival.{Turn, turn_between}
+use Rattle.qu_grounds.proofs.Together.{member_at}
+use Rattle.qu_accepts.proofs.Together.{are_steps, accepts_together}
 use Rattle.qu_runs.specs.Plain.{ArePlain}
 use Rattle.qu_stamp.specs.declared.candidate.Candidate.{Candidate}
 use Rattle.qu_world.specs.Run.{IsRun}
-use Rattle.qu_chain.specs.Joint.{Joint}
+use Rattle.qu_chain.specs.Joint.{Joint, HasCompanion}
 use Rattle.qu_claims.specs.Digested.{NoCollision}
 use Rattle.qu_base.specs.declared.party.ObjectId.{ObjectId}
 use Rattle.qu_claims.specs.Origins.{Origin}
 use Rattle.qu_stamp.specs.declared.stamp.Stamp.{Stamp}
 use Rattle.qu_trace.specs.declared.trace.Trace.{Trace}
-use Rattle.qu_laws.proofs.Origins.{accepted_from, no_member_yet}
-use Rattle.qu_claims.specs.Accepted.{is_accepted}
+use Rattle.qu_laws.proofs.Origins.{accepted_from, world_ends}
+use Rattle.qu_laws.proofs.ShownWhenAccepted.{start, still_accepted}
+use Rattle.qu_claims.specs.Accepted.{accepts, is_accepted}
 use Rattle.qu_claims.specs.Chained.{last_world}
-use Rattle.qu_laws.proofs.Laws.{one_accepted, copies}
+use Rattle.qu_laws.proofs.Laws.{one_place, copies}
 use Rattle.std.proofs.lemmas.Option.{none-some}
 use Rattle.qu_stamp.specs.Candidate.{opening}
 use Rattle.qu_runs.proofs.Small.{same_candidate}
@@ -47,8 +59,92 @@ module _ (trace : Trace) (is_run : IsRun trace) (have : ArePlain trace) where
             | inr other_came ↦
                 same_candidate candidate other same
                 ((stamps_name trace is_run have no_collision).prior object candidate other came other_came same)
-                ((came.made).group ∙ sym (other_came.made).group)
+                ((stamps_name trace is_run have no_collision).group object candidate other came other_came same)
           ]
+        ]
+
+    -- ---- the candidates of a group
+
+    together_here : AcceptsTogether trace
+    together_here = accepts_together trace (are_steps trace is_run have.typed)
+
+    -- the event, before this one, at which a replica accepted a candidate that has a member
+    accepted_at : (time : ℕ) → time ≤ length trace.entries → (object : ObjectId) (place : ℕ) (candidate : Candidate)
+        (other : ObjectId) (stamp : Stamp) → (setting trace).accepted time object place candidate ≡ true
+        → (setting trace).member candidate other ≡ Some stamp
+        → Turn (λ (now : ℕ). (setting trace).accepted now object place candidate) 0 time
+    unfolding setting
+    accepted_at time within object place candidate other stamp accepted is_member =
+        turn_between (λ (now : ℕ). (setting trace).accepted now object place candidate) 0 time (omega arith)
+        (elim (cases_Bool ((setting trace).accepted 0 object place candidate)) [
+          | inr not_yet ↦ not_yet
+          | inl begins ↦ absurd (none-some stamp
+              (sym (alone_has_no_member candidate other
+              (ap (λ (it : Candidate). it.group) (start trace is_run have object place candidate begins))) ∙ is_member))
+        ]) accepted
+
+    -- a replica that accepted a candidate accepted each member of its group
+    companion_by : (time : ℕ) → time ≤ length trace.entries → (object : ObjectId) (place : ℕ) (candidate : Candidate)
+        (other : ObjectId) (stamp : Stamp) → (setting trace).good place ≡ true → place < (setting trace).n
+        → (setting trace).accepted time object place candidate ≡ true → Apart object other
+        → (setting trace).member candidate other ≡ Some stamp
+        → HasCompanion (setting trace) time object place candidate other stamp
+    unfolding setting
+    companion_by time bound object place candidate other stamp good within accepted apart is_member =
+        let turn : Turn (λ (now : ℕ). (setting trace).accepted now object place candidate) 0 time =
+        accepted_at time bound object place candidate other stamp accepted is_member in
+        let new : IsNew (setting trace) turn.time object place candidate = record {
+          step = omega (arith, turn.within, bound);
+          within = within;
+          good = good;
+          after = turn.after;
+          before = turn.before;
+        } in
+        let joined : IsJoined trace turn.time place candidate other stamp =
+        together_here.whole turn.time object place candidate other stamp new is_member in
+        let same : (joined.companion).stamp ≡ record candidate.stamp {
+          time = (member_at candidate other stamp is_member).time;
+        } = joined.stamp_is ∙ sym (member_at candidate other stamp is_member).is in
+        record {
+          companion = joined.companion;
+          stamp_is = joined.stamp_is;
+          accepted_too = still_accepted trace is_run have (suc turn.time) time (omega (arith, turn.within)) other place
+              joined.companion (joined.new).after;
+          back = together_here.alone turn.time other object place joined.companion candidate joined.new new
+              (λ numbers. apart (sym numbers));
+          plain_too = ap (λ (it : Stamp). not it.barrier) same;
+          act_too = ap (λ (it : Stamp). is_some it.act) same;
+        }
+
+    -- also at a time after the last event
+    has_companion : (time : ℕ) (object : ObjectId) (place : ℕ) (candidate : Candidate)
+        (other : ObjectId) (stamp : Stamp) → (setting trace).good place ≡ true → place < (setting trace).n
+        → (setting trace).accepted time object place candidate ≡ true → Apart object other
+        → (setting trace).member candidate other ≡ Some stamp
+        → HasCompanion (setting trace) time object place candidate other stamp
+    unfolding setting
+    has_companion time object place candidate other stamp good within accepted apart is_member =
+        elim (cases_lt time (length trace.entries)) [
+          | inl before ↦
+              companion_by time (omega (arith, before)) object place candidate other stamp good within accepted apart
+              is_member
+          | inr past ↦
+              let ends : world_after trace time ≡ last_world trace = world_ends trace time past in
+              let last : ℕ = length trace.entries in
+              let it : HasCompanion (setting trace) last object place candidate other stamp =
+              companion_by last (omega arith) object place candidate other stamp good within
+              (ap (λ (world : WorldState). test_at (accepts object candidate) world.replicas place) (sym ends)
+              ∙ accepted) apart is_member in
+              record {
+                companion = it.companion;
+                stamp_is = it.stamp_is;
+                accepted_too =
+                    ap (λ (world : WorldState). test_at (accepts other it.companion) world.replicas place) ends
+                    ∙ it.accepted_too;
+                back = it.back;
+                plain_too = it.plain_too;
+                act_too = it.act_too;
+              }
         ]
 
     pub joint_laws : Joint (setting trace)
@@ -58,11 +154,11 @@ module _ (trace : Trace) (is_run : IsRun trace) (have : ArePlain trace) where
           one_of_stamp object candidate other
           (somewhere_accepted object candidate (last_world trace).replicas place accepted)
           (somewhere_accepted object other (last_world trace).replicas elsewhere again) same;
-      joint = λ time object place candidate other stamp good within accepted apart is.
-          absurd (none-some stamp (sym (no_member_yet trace is_run have time place object candidate accepted other)
-          ∙ is));
+      joint = has_companion;
       together = λ time object other place elsewhere candidate companion apart new again.
-          absurd (apart (ap (λ (it : ObjectId). it.0)
-          (one_accepted trace is_run have time object other place elsewhere candidate companion new again).objects));
+          together_here.alone time object other place candidate companion new
+          (subst (λ (it : ℕ). IsNew (setting trace) time other it companion)
+          (sym (one_place trace is_run have time object other place elsewhere candidate companion new again)) again)
+          apart;
       copies = copies trace is_run have;
     }

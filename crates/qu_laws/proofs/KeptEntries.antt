@@ -143,7 +143,7 @@ module _ (trace : Trace) (is_run : IsRun trace) (have : ArePlain trace) (time : 
     pub sent_fits : sets_form.Fits sent
     sent_fits =
         (request-fits client number round sent body mac
-        (handed_fits trace is_run have time default below (party.Replica me) text hands
+        (handed_fits trace is_run have.typed time default below (party.Replica me) text hands
         (frame.Request client number round sent body mac)
         (brings_decoded old text (frame.Request client number round sent body mac) brings))).shown
 

@@ -1,43 +1,36 @@
 -- A run of the world meets the laws of the theory of what is decided.
-use Rattle.std.proofs.Common.{[], ◌≡◌, List, Some, ap, arith, false, inl, inr, length, not, refl, subst, suc, sym, true, zero, ℕ, ◌⊎◌, ◌<◌, ◌≤◌, ◌∙◌, ◌+◌, Option, None, add-one}
+use Rattle.std.proofs.Common.{[], ◌∷◌, ◌≡◌, List, Some, ap, arith, false, inl, inr, length, not, refl, subst, suc, sym, true, zero, ℕ, ◌⊎◌, ◌<◌, ◌≤◌, ◌∙◌, ◌+◌, Option, None, add-one}
 use Rattle.qu_accepts.proofs.Accepting.{StepAt, step_at, Acceptance}
 use Rattle.qu_claims.specs.Grounds.{IsGround, Accepts, IsDelivered, AddsTo, Performs, IsFound, Mends, MendsOn, Reasons, IsMade, IsRemedy, made_stamp}
 use Rattle.qu_runs.specs.Plain.{ArePlain}
 use Rattle.qu_base.specs.Bounds.{AreThresholds, quorum, replicas, repair}
 use Rattle.qu_stamp.specs.declared.candidate.Candidate.{Candidate}
 use Rattle.qu_chain.proofs.Counting.{test_at-here}
-use Rattle.qu_chain.specs.Laws.{Given, IsLinked, Laws, Sizes}
-use Rattle.qu_chain.proofs.Ancestry.{acceptor}
+use Rattle.qu_chain.specs.Laws.{Given, IsLinked, Laws}
 use Rattle.qu_stamp.proofs.Groups.{alone_has_no_member}
-use Rattle.qu_laws.proofs.Origins.{no_member_yet, no_group_yet}
-use Rattle.qu_claims.specs.Setting.{IsNew, acceptors, IsAttested, IsAccepted}
+use Rattle.qu_claims.specs.Setting.{IsNew, acceptors, IsAttested}
 use Rattle.qu_world.specs.Run.{IsRun}
 use Rattle.qu_base.specs.declared.party.ObjectId.{ObjectId}
 use Rattle.qu_rows.specs.State.{ReplicaState, own_candidates, own_latest}
 use Rattle.qu_stamp.specs.declared.stamp.Stamp.{Stamp}
 use Rattle.qu_trace.specs.declared.trace.Trace.{Trace}
-use Rattle.qu_grounds.proofs.Grounds.{above_base, base_not_below, added_above, added_alone, IsBase, is_base}
+use Rattle.qu_grounds.proofs.Grounds.{above_base, base_not_below, IsBase, is_base}
 use Rattle.qu_runs.proofs.Worlds.Objects.{accepted_known}
 use Rattle.qu_claims.specs.Accepted.{accepts}
-use Rattle.qu_runs.proofs.Worlds.OpeningReplicas.{acceptor_is_good, all_begin, all_replicas}
+use Rattle.qu_runs.proofs.Worlds.OpeningReplicas.{all_begin, all_replicas}
 use Rattle.qu_base.proofs.ThresholdFacts.{are_thresholds}
-use Rattle.qu_rows.specs.Rows.{asked_of, Asked}
+use Rattle.qu_rows.specs.Rows.{asked_of, Asked, objects_of}
 use Rattle.std.proofs.lemmas.Bool.{cases_Bool, cases_lt, false≢true, lt-ltb, ltb-true, not-true}
-use Rattle.qu_claims.specs.Count.{test_at}
-use Rattle.qu_runs.proofs.Worlds.Settings.{somewhere_accepted}
 use Rattle.std.specs.Prelude.{is_some, slice_get}
 use Rattle.qu_history.specs.Sets.{entries_of, order_of, latest_of, candidates_of}
-use Rattle.qu_history.proofs.Rising.{holds_pushed}
 use Rattle.qu_stamp.specs.Stamp.{is_below, same_stamp}
-use Rattle.qu_stamp.proofs.Order.{is_below-not_chain, is_below-other, is_below-self, equal_by_same_stamp, is_before_by_stamp}
+use Rattle.qu_stamp.proofs.Order.{is_below-not_chain, is_below-other, equal_by_same_stamp, is_before_by_stamp}
 use Rattle.qu_history.specs.declared.sets.SetOf.{SetOf}
 use Rattle.qu_stamp.specs.Candidate.{is_before}
 use Rattle.qu_history.specs.History.{holds, ObjectHistory}
 use Rattle.qu_claims.specs.RunSetting.{setting}
-use Rattle.std.proofs.lemmas.Option.{same_Some, slice_get_cases, slice_get_within, none-some}
+use Rattle.std.proofs.lemmas.Option.{slice_get_cases, none-some}
 use Rattle.qu_claims.specs.Parts.{Names}
-use Rattle.qu_grounds.proofs.Parts.{same_added}
-use Rattle.qu_rows.specs.Allowed.{HasParts}
 use Rattle.qu_objects.specs.declared.act.Method.{Method}
 use Rattle.qu_claims.specs.Times.{world_after}
 use Rattle.qu_frames.specs.declared.frame.Body.TheVariants as body
@@ -52,35 +45,24 @@ use Rattle.qu_class.specs.Repairable.{object_base}
 use Rattle.qu_class.proofs.OfKind.{base_is_greatest, held_if_repairable}
 use Rattle.qu_rows.proofs.Allowed.{fresh_later}
 use Rattle.qu_base.specs.declared.party.Digest.{Digest}
-use Rattle.qu_laws.proofs.ShownWhenAccepted.{asks_in, not_above_shown, sizes, acceptance_of, start, grows, held_before, rising, alone, bounds_then, formed_then, shown_accepted, established_is_shown}
+use Rattle.qu_laws.proofs.ShownWhenAccepted.{not_above_shown, sizes, acceptance_of, start, grows, held_before, rising, alone, bounds_then, formed_then, shown_accepted, established_is_shown}
 use Rattle.qu_claims.specs.Handling.{Handles}
 use Rattle.qu_accepts.proofs.Handling.{mid_candidates, one_handled}
-use Rattle.qu_accepts.proofs.Happenings.{handled_fits}
-use Rattle.qu_runs.proofs.Fits.FitParts.{fits_parts}
+use Rattle.qu_accepts.proofs.Together.{added_now}
 
 module _ (trace : Trace) (is_run : IsRun trace) (have : ArePlain trace) where
   -- ---- the base of what is accepted
 
-  -- a candidate that is attested, or rests on such a one and stands alone
+  -- a candidate that is attested, or rests on such a one
   abbrev IsBased : ℕ → ObjectId → ℕ → Candidate → Type 0
   IsBased time object place candidate =
-      IsAttested (setting trace) time object candidate
-      ⊎ (IsLinked (setting trace) time object place candidate × (candidate.group ≡ []))
+      IsAttested (setting trace) time object candidate ⊎ IsLinked (setting trace) time object place candidate
 
-  -- what is attested is accepted somewhere
-  accepted_then : (time : ℕ) (object : ObjectId) (candidate : Candidate)
-      → IsAttested (setting trace) time object candidate → IsAccepted (setting trace) time object candidate
-  accepted_then time object candidate attested =
-      let size : Sizes (setting trace) = sizes trace is_run have in
-      omega (arith, attested, size.borne, size.meets, size.within)
-
-  -- so it has no member on any object
-  attested_alone : (time : ℕ) (object : ObjectId) (candidate : Candidate)
-      → IsAttested (setting trace) time object candidate → (other : ObjectId)
-      → (setting trace).member candidate other ≡ None
-  attested_alone time object candidate attested other =
-      let who = acceptor (setting trace) time object candidate (accepted_then time object candidate attested) in
-      no_member_yet trace is_run have time who.replica object candidate who.accepted other
+  -- a copy, which stands alone, and so does what it copies
+  record IsCopyOf (time : ℕ) (object : ObjectId) (place : ℕ) (copy : Candidate) : Type 0 where
+    link : IsLinked (setting trace) time object place copy
+    single : (link.base).group ≡ []
+    alone : copy.group ≡ []
 
   module _ (time : ℕ) (within : time < length trace.entries) (object : ObjectId) (place : ℕ) (candidate : Candidate)
       (accepted : Acceptance trace time object place candidate) where
@@ -106,7 +88,8 @@ module _ (trace : Trace) (is_run : IsRun trace) (have : ArePlain trace) where
     unfolding setting
     act_linked asked parts sets performs names =
         let base : Candidate = performs.bases object in
-        let why : IsGround mid asked object (upon.candidates object) base = performs.grounds object names in
+        let why : IsGround mid asked (objects_of parts) object (upon.candidates object) base =
+        performs.grounds object names in
         let is : IsBase old_bounds (entries_of object asked.sets) base =
         is_base old_bounds (entries_of object asked.sets) base why.method in
         let full : quorum trace.setup.bounds ≤ order_of base entries =
@@ -146,12 +129,13 @@ module _ (trace : Trace) (is_run : IsRun trace) (have : ArePlain trace) where
     copy_linked : (asked : Asked) (latest copy : Candidate) → asked.sets ≡ upon.sets
         → quorum old_bounds ≤ length (entries_of object asked.sets)
         → is_below (latest_of (entries_of object asked.sets)) (own_latest mid object) ≡ false
-        → (asked.act ≡ None) → IsMade old_bounds asked object copy
+        → (asked.act ≡ None) → IsMade old_bounds asked (object ∷ []) object copy
+        → (object_base old_bounds (entries_of object asked.sets)).group ≡ []
         → latest.stamp.barrier ≡ true → latest.stamp ≡ latest_of (entries_of object asked.sets)
         → quorum old_bounds ≤ order_of latest (entries_of object asked.sets)
-        → IsLinked (setting trace) time object place copy
+        → IsCopyOf time object place copy
     unfolding setting
-    copy_linked asked latest copy sets enough current no_act made barrier is_latest full =
+    copy_linked asked latest copy sets enough current no_act made single barrier is_latest full =
         let formed : AreWellFormed trace.setup.bounds entries =
         formed_then trace is_run have time within object place candidate accepted in
         let some : quorum trace.setup.bounds ≤ length entries =
@@ -169,32 +153,38 @@ module _ (trace : Trace) (is_run : IsRun trace) (have : ArePlain trace) where
         let latest_is : latest_of (entries_of object asked.sets) ≡ latest_of entries =
         ap (λ (it : List SetOf). latest_of (entries_of object it)) sets in
         record {
-          base = base;
-          plain_base = ap not (greatest.repairable).kind;
-          prior = made.prior ∙ ap (λ (it : List SetOf). (object_base old_bounds (entries_of object it)).stamp) sets
-              ∙ ap (λ (bounds : ℕ). (object_base bounds entries).stamp) same_bounds;
-          below = fresh_later (latest_of entries) base.stamp copy.stamp
-              (ap (λ (it : Stamp). it.time) stamp ∙ ap (λ (it : Stamp). it.time + 1) latest_is)
-              (not_above_shown entries base held);
-          attested = omega (arith, shown, enough_show);
-          settled = λ is_act. absurd (false≢true (sym (ap (λ (act : Option Digest). is_some act)
-              (ap (λ (it : Stamp). it.act) stamp ∙ no_act)) ∙ is_act));
-          not_below = λ other plain established before.
-              let not_above : is_below latest.stamp other.stamp ≡ false =
-              ap (λ (it : Stamp). is_below it other.stamp) is_latest
-              ∙ is_below-not_chain (latest_of (entries_of object asked.sets)) (own_latest mid object)
-              other.stamp current
-              (not_below_latest (own_candidates mid object) other
-              (held_before trace is_run have time object place candidate other accepted before)) in
-              let under : is_below other.stamp latest.stamp ≡ true =
-              is_below-other latest.stamp other.stamp not_above (unlike latest other barrier plain) in
-              let so_many : repair trace.setup.bounds ≤ order_of other entries =
-              established_is_shown trace is_run have time within object place candidate accepted latest other
-              (subst (λ (bounds : ℕ). quorum bounds ≤ order_of latest entries) same_bounds
-              (subst (λ (it : List SetOf). quorum old_bounds ≤ order_of latest (entries_of object it)) sets full))
-              established under in
-              not_below_greatest base other
-              (greatest.above other (record { kind = plain_kind other plain; order = so_many }));
+          link = record {
+            base = base;
+            plain_base = ap not (greatest.repairable).kind;
+            prior = made.prior ∙ ap (λ (it : List SetOf). (object_base old_bounds (entries_of object it)).stamp) sets
+                ∙ ap (λ (bounds : ℕ). (object_base bounds entries).stamp) same_bounds;
+            below = fresh_later (latest_of entries) base.stamp copy.stamp
+                (ap (λ (it : Stamp). it.time) stamp ∙ ap (λ (it : Stamp). it.time + 1) latest_is)
+                (not_above_shown entries base held);
+            attested = omega (arith, shown, enough_show);
+            settled = λ is_act. absurd (false≢true (sym (ap (λ (act : Option Digest). is_some act)
+                (ap (λ (it : Stamp). it.act) stamp ∙ no_act)) ∙ is_act));
+            not_below = λ other plain established before.
+                let not_above : is_below latest.stamp other.stamp ≡ false =
+                ap (λ (it : Stamp). is_below it other.stamp) is_latest
+                ∙ is_below-not_chain (latest_of (entries_of object asked.sets)) (own_latest mid object)
+                other.stamp current
+                (not_below_latest (own_candidates mid object) other
+                (held_before trace is_run have time object place candidate other accepted before)) in
+                let under : is_below other.stamp latest.stamp ≡ true =
+                is_below-other latest.stamp other.stamp not_above (unlike latest other barrier plain) in
+                let so_many : repair trace.setup.bounds ≤ order_of other entries =
+                established_is_shown trace is_run have time within object place candidate accepted latest other
+                (subst (λ (bounds : ℕ). quorum bounds ≤ order_of latest entries) same_bounds
+                (subst (λ (it : List SetOf). quorum old_bounds ≤ order_of latest (entries_of object it)) sets full))
+                established under in
+                not_below_greatest base other
+                (greatest.above other (record { kind = plain_kind other plain; order = so_many }));
+          };
+          single = ap (λ (it : List SetOf). (object_base trace.setup.bounds (entries_of object it)).group) (sym sets)
+              ∙ ap (λ (bounds : ℕ). (object_base bounds (entries_of object asked.sets)).group) (sym same_bounds)
+              ∙ single;
+          alone = made.group;
         }
       where
         plain_kind : (it : Candidate) → not it.stamp.barrier ≡ true → it.stamp.barrier ≡ false
@@ -219,7 +209,9 @@ module _ (trace : Trace) (is_run : IsRun trace) (have : ArePlain trace) where
 
     mended_based : (asked : Asked) (target : ObjectId) (group : List (ObjectId × ℕ)) → asked.sets ≡ upon.sets
         → asked.act ≡ None → Mends mid accepted.new asked target group upon.candidates → MendsOn target group object
-        → (setting trace).plain (upon.candidates object) ≡ true → IsBased time object place (upon.candidates object)
+        → (setting trace).plain (upon.candidates object) ≡ true
+        → IsAttested (setting trace) time object (upon.candidates object)
+        ⊎ IsCopyOf time object place (upon.candidates object)
     unfolding setting
     mended_based asked target group sets no_act mends mended plain =
         by_remedy (upon.candidates object) mends.version (mends.remedy object mended) plain
@@ -231,16 +223,15 @@ module _ (trace : Trace) (is_run : IsRun trace) (have : ArePlain trace) where
         by_remedy : (it : Candidate) (version : Option ObjState) → IsRemedy mid asked object it version
             → not it.stamp.barrier ≡ true → quorum old_bounds ≤ length (entries_of object asked.sets)
             → is_below (latest_of (entries_of object asked.sets)) (own_latest mid object) ≡ false
-            → IsBased time object place it
+            → IsAttested (setting trace) time object it ⊎ IsCopyOf time object place it
         by_remedy it version (IsRemedy.inline_barrier barrier found) plain_it enough current =
             absurd (no_barrier it barrier plain_it)
         by_remedy it version (IsRemedy.inline_method state kind found stored) plain_it enough current =
             inl (found_attested asked object it sets refl found)
         by_remedy it version (IsRemedy.barrier barrier made) plain_it enough current =
             absurd (no_barrier it barrier plain_it)
-        by_remedy it version (IsRemedy.copy latest state kind made barrier is_latest full stored) plain_it enough
-            current =
-            inr (copy_linked asked latest it sets enough current no_act made barrier is_latest full, made.group)
+        by_remedy it version (IsRemedy.copy latest state kind made single barrier is_latest full stored) plain_it enough
+            current = inr (copy_linked asked latest it sets enough current no_act made single barrier is_latest full)
 
     -- whatever the request asks for
     based_by : (client : ClientId) (number : ℕ) (asks : Body) (group : List (ObjectId × ℕ))
@@ -248,13 +239,14 @@ module _ (trace : Trace) (is_run : IsRun trace) (have : ArePlain trace) where
         → AddsTo asks group object → (setting trace).plain (upon.candidates object) ≡ true
         → IsBased time object place (upon.candidates object)
     based_by client number (body.Act parts) group reasons names plain =
-        inr (
-          act_linked (asked_of client number upon.sets (body.Act parts)) parts refl reasons names,
-          (reasons.grounds object names).group,
-        )
+        inr (act_linked (asked_of client number upon.sets (body.Act parts)) parts refl reasons names)
     based_by client number (body.Ask parts) group reasons never plain = absurd never
     based_by client number (body.Mend target) group reasons mended plain =
-        mended_based (asked_of client number upon.sets (body.Mend target)) target group refl refl reasons mended plain
+        elim (mended_based (asked_of client number upon.sets (body.Mend target)) target group refl refl reasons mended
+        plain) [
+          | inl attested ↦ inl attested
+          | inr copy ↦ inr copy.link
+        ]
 
     is_based : (setting trace).plain candidate ≡ true → IsBased time object place candidate
     is_based plain =
@@ -271,17 +263,22 @@ module _ (trace : Trace) (is_run : IsRun trace) (have : ArePlain trace) where
         → IsAttested (setting trace) time object (upon.candidates object)
         ⊎ IsCopied (setting trace) time object place (upon.candidates object)
     unfolding setting
-    copied_by client number asks group reasons adds plain no_act =
-        elim (based_by client number asks group reasons adds plain) [
+    copied_by client number (body.Act parts) group reasons names plain no_act =
+        absurd (false≢true (sym no_act
+        ∙ ap (λ (it : Stamp). is_some it.act) (reasons.grounds object names).stamp))
+    copied_by client number (body.Ask parts) group reasons never plain no_act = absurd never
+    copied_by client number (body.Mend target) group reasons mended plain no_act =
+        elim (mended_based (asked_of client number upon.sets (body.Mend target)) target group refl refl reasons mended
+        plain) [
           | inl attested ↦ inl attested
-          | inr linked ↦ inr (record {
-            base = linked.0.base;
-            prior = linked.0.prior;
-            attested = linked.0.attested;
+          | inr copy ↦ inr (record {
+            base = copy.link.base;
+            prior = copy.link.prior;
+            attested = copy.link.attested;
             joined = λ other companion apart is_member also. absurd (none-some companion.stamp
-                (sym (alone_has_no_member (upon.candidates object) other linked.1) ∙ is_member));
+                (sym (alone_has_no_member (upon.candidates object) other copy.alone) ∙ is_member));
             covered = λ other stamp apart is_member none. absurd (none-some stamp
-                (sym (attested_alone time object linked.0.base linked.0.attested other) ∙ is_member));
+                (sym (alone_has_no_member copy.link.base other copy.single) ∙ is_member));
           })
         ]
 
@@ -302,7 +299,7 @@ module _ (trace : Trace) (is_run : IsRun trace) (have : ArePlain trace) where
       elim (is_based time new.step object place candidate
       (acceptance_of trace is_run have time object place candidate new) plain) [
         | inl attested ↦ inl attested
-        | inr based ↦ inr based.0
+        | inr link ↦ inr link
       ]
 
   pub copies : (time : ℕ) (object : ObjectId) (place : ℕ) (candidate : Candidate)
@@ -323,33 +320,14 @@ module _ (trace : Trace) (is_run : IsRun trace) (have : ArePlain trace) where
   unfolding setting
   new_accepted time within place old new object delivered =
       let handles : Handles trace time place old new = delivered.handles in
-      let upon : Accepts handles.mid new handles.carried = delivered.accepts in
-      let candidate : Candidate = upon.candidates object in
-      let among : place < length (world_after trace time).replicas =
-      slice_get_within (world_after trace time).replicas place old handles.is_old in
-      let all : length (world_after trace time).replicas ≡ replicas trace.setup.bounds = all_replicas trace time in
-      let is_new : slice_get (world_after trace (suc time)).replicas place ≡ Some new =
-      ap (λ (count : ℕ). slice_get (world_after trace count).replicas place) (sym (add-one time)) ∙ handles.is_new in
-      let now : test_at (accepts object candidate) (world_after trace (suc time)).replicas place ≡ true =
-      test_at-here (accepts object candidate) (world_after trace (suc time)).replicas place new is_new
-      ∙ ap (holds candidate) (upon.added object delivered.adds)
-      ∙ holds_pushed candidate (own_candidates handles.mid object) in
-      record {
-        step = within;
-        within = omega (arith, among, all);
-        good = acceptor_is_good trace (suc time) place object candidate now;
-        after = now;
-        before =
-            test_at-here (accepts object candidate) (world_after trace time).replicas place old handles.is_old
-            ∙ ap (holds candidate) (sym (mid_candidates trace time old handles.mid handles.learns object))
-            ∙ elim (cases_Bool (accepts object candidate handles.mid)) [
-              | inr not_held ↦ not_held
-              | inl held ↦
-                  absurd (false≢true (sym (is_below-self candidate.stamp)
-                  ∙ added_above handles.mid new (asked_of upon.client upon.number upon.sets upon.asks) upon.group
-                  upon.candidates upon.asks upon.reasons object delivered.adds candidate held))
-            ];
-      }
+      added_now trace time place within old new handles.is_old
+      (ap (λ (count : ℕ). slice_get (world_after trace count).replicas place) (sym (add-one time)) ∙ handles.is_new)
+      (record {
+        mid = handles.mid;
+        same = mid_candidates trace time old handles.mid handles.learns;
+        received = handles.carried;
+        accepts = delivered.accepts;
+      }) object delivered.adds
 
   moves_here : (time : ℕ) → time < length trace.entries → (object : ObjectId) (place : ℕ) → place < (setting trace).n
       → Given (setting trace) time object
@@ -412,59 +390,18 @@ module _ (trace : Trace) (is_run : IsRun trace) (have : ArePlain trace) where
 
   -- ---- one event
 
-  -- what is accepted at one event is one candidate, at one replica
-  pub record AreOne (object other : ObjectId) (place elsewhere : ℕ) (first second : Candidate) : Type 0 where
-    pub places : place ≡ elsewhere
-    pub objects : object ≡ other
-    pub candidates : first ≡ second
-
-  -- what is accepted has no group, so a request to mend adds to its target alone
-  adds_alone : (time : ℕ) → time < length trace.entries → (object : ObjectId) (place : ℕ) (candidate : Candidate)
-      (accepted : Acceptance trace time object place candidate) → IsNew (setting trace) time object place candidate
-      → AddsTo ((accepted.delivered).accepts).asks [] object
-  unfolding setting
-  adds_alone time within object place candidate accepted new =
-      let upon : Accepts ((accepted.delivered).handles).mid accepted.new ((accepted.delivered).handles).carried =
-      (accepted.delivered).accepts in
-      let no_group : candidate.group ≡ [] =
-      no_group_yet trace is_run have (suc time) (omega (arith, within)) object candidate
-      (somewhere_accepted object candidate (world_after trace (suc time)).replicas place new.after) in
-      added_alone ((accepted.delivered).handles).mid accepted.new
-      (asked_of upon.client upon.number upon.sets upon.asks) upon.group upon.candidates upon.asks upon.reasons object
-      (accepted.delivered).adds (ap (λ (it : Candidate). it.group) accepted.candidate_is ∙ no_group)
-
-  pub one_accepted : (time : ℕ) (object other : ObjectId) (place elsewhere : ℕ) (first second : Candidate)
+  -- what is accepted at one event one replica accepts
+  pub one_place : (time : ℕ) (object other : ObjectId) (place elsewhere : ℕ) (first second : Candidate)
       → IsNew (setting trace) time object place first → IsNew (setting trace) time other elsewhere second
-      → AreOne object other place elsewhere first second
+      → place ≡ elsewhere
   unfolding setting
-  one_accepted time object other place elsewhere first second new again =
+  one_place time object other place elsewhere first second new again =
       let one : Acceptance trace time object place first =
       acceptance_of trace is_run have time object place first new in
       let two : Acceptance trace time other elsewhere second =
       acceptance_of trace is_run have time other elsewhere second again in
-      let within : time < length trace.entries = new.step in
-      let here : Handles trace time place one.old one.new = (one.delivered).handles in
-      let there : Handles trace time elsewhere two.old two.new = (two.delivered).handles in
-      let upon : Accepts here.mid one.new here.carried = (one.delivered).accepts in
-      let besides : Accepts there.mid two.new there.carried = (two.delivered).accepts in
-      let same : (place ≡ elsewhere) × (here.carried ≡ there.carried) =
-      one_handled trace time place elsewhere one.old one.new two.old two.new here there in
-      let bodies : upon.asks ≡ besides.asks =
-      same_Some _ _ (ap asks_in (sym upon.is_request ∙ same.1 ∙ besides.is_request)) in
-      let some : HasParts here.carried =
-      fits_parts here.carried (handled_fits trace is_run have time within place one.old one.new here) in
-      let objects : object ≡ other =
-      same_added upon.asks object other (subst HasParts upon.is_request some)
-      (adds_alone time within object place first one new)
-      (subst (λ (it : Body). AddsTo it [] other) (sym bodies)
-      (adds_alone time within other elsewhere second two again)) in
-      record {
-        places = same.0;
-        objects = objects;
-        candidates = alone trace is_run have time object place first second new
-            (subst (λ (it : ObjectId). IsNew (setting trace) time it place second) (sym objects)
-            (subst (λ (it : ℕ). IsNew (setting trace) time other it second) (sym same.0) again));
-      }
+      (one_handled trace time place elsewhere one.old one.new two.old two.new (one.delivered).handles
+      (two.delivered).handles).0
 
   pub laws : Laws (setting trace)
   unfolding setting
@@ -479,7 +416,6 @@ module _ (trace : Trace) (is_run : IsRun trace) (have : ArePlain trace) where
     rising = rising trace is_run have;
     alone = alone trace is_run have;
     moves = moves;
-    one_mover = λ time object other place elsewhere candidate second new again.
-        (one_accepted time object other place elsewhere candidate second new again).places;
+    one_mover = one_place;
     linked = λ time object place candidate holds plain new. linked time object place candidate plain new;
   }

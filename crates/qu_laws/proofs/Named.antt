@@ -1,24 +1,32 @@
--- Where no two texts have one digest, a stamp names the histories upon which its candidate was accepted.
-use Rattle.std.proofs.Common.{◌≡◌, List, length, Some, refl, sym, ap, subst, ◌∙◌, arith}
+-- Where no two texts have one digest, a stamp names the histories upon which its candidate was accepted, and the
+-- objects on which it was made.
+use Rattle.std.proofs.Common.{◌≡◌, ℕ, ◌+◌, List, [], ◌∷◌, map, length, Some, refl, sym, ap, subst, ◌∙◌, arith}
 use Rattle.std.specs.Prelude.{Contains}
+use Rattle.std.proofs.lemmas.Option.{none-some, same_Some}
+use Rattle.qu_base.specs.declared.party.ClientId.{ClientId}
 use Rattle.qu_base.specs.declared.party.ObjectId.{ObjectId}
 use Rattle.qu_seal.specs.declared.constants.TheConstants.{SETS_TAG}
 use Rattle.qu_seal.specs.Digesting.{digest_of}
 use Rattle.qu_stamp.specs.declared.stamp.Stamp.{Stamp}
 use Rattle.qu_stamp.specs.declared.candidate.Candidate.{Candidate}
 use Rattle.qu_history.specs.declared.sets.SetOf.{SetOf}
+use Rattle.qu_history.specs.Sets.{latest_of}
 use Rattle.qu_history.specs.Formats.{sets_form}
 use Rattle.qu_history.specs.Text.{sets_text, sets_digest}
 use Rattle.qu_history.proofs.Unsealed.{entries_of-one}
+use Rattle.qu_objects.specs.declared.act.Method.{Method}
+use Rattle.qu_frames.specs.declared.frame.Body.{Body}
+use Rattle.qu_frames.specs.declared.frame.Body.TheVariants as body
 use Rattle.qu_frames.specs.declared.frame.Frame.{Frame}
 use Rattle.qu_frames.specs.Formats.{frame_form}
 use Rattle.qu_fitting.proofs.FitCulled.{culled-fits}
 use Rattle.qu_fitting.proofs.FitRequests.{request-fits}
 use Rattle.qu_trace.specs.declared.trace.Trace.{Trace}
 use Rattle.qu_world.specs.Run.{IsRun}
-use Rattle.qu_claims.specs.Handled.{Request, handled_by}
+use Rattle.qu_claims.specs.Handled.{Request, handled_by, IsHandled}
 use Rattle.qu_claims.specs.Digested.{Text, texts_of, digested, NoCollision}
-use Rattle.qu_claims.specs.Grounds.{Accepts}
+use Rattle.qu_rows.specs.Rows.{Asked, asked_of, act_asked, shown_of, fresh_stamp, objects_of}
+use Rattle.qu_claims.specs.Grounds.{Accepts, fresh_group, made_on}
 use Rattle.qu_claims.specs.Named.{shown_to, StampsNameHistories}
 use Rattle.qu_claims.specs.Times.{world_after}
 use Rattle.qu_claims.specs.Origins.{Origin}
@@ -29,7 +37,8 @@ use Rattle.qu_world.proofs.Each.{each_at}
 use Rattle.qu_trace.specs.declared.event.Event.{Event}
 use Rattle.qu_trace.specs.declared.trace.Entry.{Entry}
 use Rattle.qu_base.specs.declared.party.Party.TheVariants as party
-use Rattle.qu_accepts.proofs.Handled.{request_upon, upon_handled}
+use Rattle.qu_accepts.proofs.Handled.{request_upon, upon_handled, handled}
+use Rattle.qu_runs.proofs.Acts.OneAct.{ActsAreOne, acts_are_one}
 use Rattle.qu_runs.proofs.Digests.DigestedTexts.{request_digested}
 use Rattle.qu_laws.proofs.Origins.{accepted_from}
 use Rattle.qu_runs.proofs.Fits.Carrying.{brings_decoded}
@@ -42,6 +51,56 @@ use Rattle.qu_claims.specs.Handling.{Handles}
 abbrev text_of : List SetOf → Text
 text_of sets = record { tag = SETS_TAG; bytes = sets_text sets }
 
+-- ---- groups
+
+-- the time of each object's candidate
+abbrev times_of : Asked → List ObjectId → List (ObjectId × ℕ)
+times_of asked objects = map (λ (object : ObjectId). (object, (fresh_stamp asked object).time)) objects
+
+-- the same histories make the same times
+fresh_times : (asked other : Asked) → ((object : ObjectId) → shown_of asked object ≡ shown_of other object)
+    → (objects : List ObjectId) → times_of asked objects ≡ times_of other objects
+fresh_times asked other alike [] = refl
+fresh_times asked other alike (object ∷ later) =
+    let with_time : List ObjectHistory → List (ObjectId × ℕ) → List (ObjectId × ℕ) =
+    λ shown rest. (object, (latest_of shown).time + 1) ∷ rest in
+    ap (λ (shown : List ObjectHistory). with_time shown (times_of asked later)) (alike object)
+    ∙ ap (with_time (shown_of other object)) (fresh_times asked other alike later)
+
+same_times : (asked other : Asked) → ((object : ObjectId) → shown_of asked object ≡ shown_of other object)
+    → (objects : List ObjectId) → fresh_group asked objects ≡ fresh_group other objects
+same_times asked other alike [] = refl
+same_times asked other alike (object ∷ []) = refl
+same_times asked other alike (first ∷ second ∷ later) = fresh_times asked other alike (first ∷ second ∷ later)
+
+-- a replica handled it, if it is an act
+abbrev WasHandled : Trace → ClientId → ℕ → Body → Type 0
+WasHandled trace client number asks =
+    (parts : List (ObjectId × Method)) → asks ≡ body.Act parts → IsHandled trace client number parts
+
+-- one act is on the same objects, and what is no act has no group
+same_objects : (trace : Trace) → ActsAreOne trace → (asked : Asked) (client other : ClientId) (number turn : ℕ)
+    (asks besides : Body) → WasHandled trace client number asks → WasHandled trace other turn besides
+    → act_asked client number asks ≡ act_asked other turn besides
+    → fresh_group asked (made_on asks) ≡ fresh_group asked (made_on besides)
+same_objects trace one_act asked client other number turn (body.Act parts) (body.Act others) one two same =
+    ap (λ (it : List (ObjectId × Method)). fresh_group asked (objects_of it))
+    (one_act client other number turn parts others (one parts refl) (two others refl) (same_Some _ _ same)).2
+same_objects trace one_act asked client other number turn (body.Act parts) (body.Ask asks) one two same =
+    absurd (none-some _ (sym same))
+same_objects trace one_act asked client other number turn (body.Act parts) (body.Mend target) one two same =
+    absurd (none-some _ (sym same))
+same_objects trace one_act asked client other number turn (body.Ask asks) (body.Act parts) one two same =
+    absurd (none-some _ same)
+same_objects trace one_act asked client other number turn (body.Ask asks) (body.Ask besides) one two same = refl
+same_objects trace one_act asked client other number turn (body.Ask asks) (body.Mend target) one two same = refl
+same_objects trace one_act asked client other number turn (body.Mend target) (body.Act parts) one two same =
+    absurd (none-some _ same)
+same_objects trace one_act asked client other number turn (body.Mend target) (body.Ask asks) one two same = refl
+same_objects trace one_act asked client other number turn (body.Mend target) (body.Mend besides) one two same = refl
+
+-- ---- histories
+
 module _ (trace : Trace) (is_run : IsRun trace) (plain : ArePlain trace) where
   -- the culled sets upon which a candidate was accepted
   abbrev sets_upon : (object : ObjectId) (candidate : Candidate) → Origin trace (length trace.entries) object
@@ -53,7 +112,7 @@ module _ (trace : Trace) (is_run : IsRun trace) (plain : ArePlain trace) where
       → HasEventParts event
   event_parts entry among event is =
       subst HasEventParts (ap (λ (it : Entry). it.event) among.2 ∙ sym is)
-      (each_at (λ (it : Entry). HasEventParts it.event) trace.entries among.0 entry plain.parts among.1)
+      (each_at (λ (it : Entry). HasEventParts it.event) trace.entries among.0 entry (plain.typed).parts among.1)
 
   sets_fit : (object : ObjectId) (candidate : Candidate)
       (it : Origin trace (length trace.entries) object candidate) → sets_form.Fits (sets_upon object candidate it)
@@ -61,7 +120,8 @@ module _ (trace : Trace) (is_run : IsRun trace) (plain : ArePlain trace) where
       let handles : Handles trace it.past it.place it.old it.new = (it.delivered).handles in
       let one : Accepts handles.mid it.new handles.carried = (it.delivered).accepts in
       let fits : frame_form.Fits handles.carried =
-      offered_fits trace is_run plain handles.since (omega (arith, it.earlier, handles.came)) (handles.entry).event
+      offered_fits trace is_run plain.typed handles.since (omega (arith, it.earlier, handles.came))
+      (handles.entry).event
       (event_parts handles.entry (contains_at trace.entries handles.since handles.entry handles.is_entry)
       (handles.entry).event refl)
       (party.Replica (record { 0 = it.place })) handles.text
@@ -98,9 +158,9 @@ module _ (trace : Trace) (is_run : IsRun trace) (plain : ArePlain trace) where
   same_histories : NoCollision trace → (object : ObjectId) (first second : Candidate)
       (one : Origin trace (length trace.entries) object first)
       (other : Origin trace (length trace.entries) object second)
-      → first.stamp ≡ second.stamp → shown_to trace (length trace.entries) object first one ≡ shown_to trace
-      (length trace.entries) object second other
-  same_histories no_collision object first second one other same =
+      → first.stamp ≡ second.stamp → (of : ObjectId) → shown_to trace (length trace.entries) object first one of
+      ≡ shown_to trace (length trace.entries) object second other of
+  same_histories no_collision object first second one other same of =
       let sets : List SetOf = sets_upon object first one in
       let others : List SetOf = sets_upon object second other in
       let digests : digest_of SETS_TAG (sets_text sets) ≡ digest_of SETS_TAG (sets_text others) =
@@ -110,7 +170,7 @@ module _ (trace : Trace) (is_run : IsRun trace) (plain : ArePlain trace) where
       no_collision (text_of sets) (text_of others) (sets_digested object first one)
       (sets_digested object second other) digests in
       entries_of-one sets others (sets_fit object first one) (sets_fit object second other)
-      (ap (λ (it : Text). it.bytes) texts) object
+      (ap (λ (it : Text). it.bytes) texts) of
 
   -- and with them the object candidate, upon which it was made
   same_prior : NoCollision trace → (object : ObjectId) (first second : Candidate)
@@ -119,12 +179,39 @@ module _ (trace : Trace) (is_run : IsRun trace) (plain : ArePlain trace) where
   same_prior no_collision object first second one other same =
       (one.made).prior
       ∙ ap (λ (entries : List ObjectHistory). (object_base trace.setup.bounds entries).stamp)
-      (same_histories no_collision object first second one other same)
+      (same_histories no_collision object first second one other same object)
       ∙ sym (other.made).prior
+
+  -- and with the act the objects on which it was made
+  was_handled : (object : ObjectId) (candidate : Candidate) (it : Origin trace (length trace.entries) object candidate)
+      (parts : List (ObjectId × Method)) → ((it.delivered).accepts).asks ≡ body.Act parts
+      → IsHandled trace ((it.delivered).accepts).client ((it.delivered).accepts).number parts
+  was_handled object candidate it parts is =
+      handled trace is_run it.past it.earlier it.place it.old it.new object it.delivered parts is
+
+  same_group : NoCollision trace → (object : ObjectId) (first second : Candidate)
+      → Origin trace (length trace.entries) object first → Origin trace (length trace.entries) object second
+      → first.stamp ≡ second.stamp → first.group ≡ second.group
+  same_group no_collision object first second one other same =
+      let here : Accepts ((one.delivered).handles).mid one.new ((one.delivered).handles).carried =
+      (one.delivered).accepts in
+      let there : Accepts ((other.delivered).handles).mid other.new ((other.delivered).handles).carried =
+      (other.delivered).accepts in
+      let asked : Asked = asked_of there.client there.number there.sets there.asks in
+      (one.made).group
+      ∙ same_times (asked_of here.client here.number here.sets here.asks) asked
+      (same_histories no_collision object first second one other same) (made_on here.asks)
+      ∙ same_objects trace (acts_are_one trace is_run plain no_collision) asked here.client there.client here.number
+      there.number here.asks there.asks
+      (was_handled object first one) (was_handled object second other)
+      (sym (ap (λ (it : Stamp). it.act) (one.made).stamp) ∙ ap (λ (it : Stamp). it.act) same
+      ∙ ap (λ (it : Stamp). it.act) (other.made).stamp)
+      ∙ sym (other.made).group
 
   pub stamps_name : NoCollision trace → StampsNameHistories trace
   stamps_name no_collision = record {
     origin = accepted_from trace is_run plain;
     histories = same_histories no_collision;
     prior = same_prior no_collision;
+    group = same_group no_collision;
   }

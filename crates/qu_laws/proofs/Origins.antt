@@ -1,11 +1,10 @@
 -- A replica holds the opening candidate of an object, and else only what an event of the run made it accept.
-use Rattle.std.proofs.Common.{◌≡◌, ◌⊎◌, ℕ, zero, suc, ◌+◌, ◌<◌, ◌≤◌, true, false, ◌||◌, length, get_or, None, Some, refl, sym, ap, subst, ◌∙◌, arith, add-one, inl, inr, Bool, IsTrue, List, [], ◌∷◌}
+use Rattle.std.proofs.Common.{◌≡◌, ◌⊎◌, ℕ, zero, suc, ◌+◌, ◌<◌, ◌≤◌, true, false, ◌||◌, length, get_or, Some, refl, sym, ap, subst, ◌∙◌, arith, add-one, inl, inr, Bool, IsTrue, List, [], ◌∷◌}
 use Rattle.std.specs.Prelude.{slice_get}
-use Rattle.std.proofs.lemmas.Bool.{false≢true, or_cases, cases_lt}
+use Rattle.std.proofs.lemmas.Bool.{false≢true, or_cases}
 use Rattle.std.proofs.lemmas.List.{take_all}
 use Rattle.qu_base.specs.declared.party.ObjectId.{ObjectId}
 use Rattle.qu_stamp.specs.declared.candidate.Candidate.{Candidate}
-use Rattle.qu_stamp.proofs.Groups.{alone_has_no_member}
 use Rattle.qu_stamp.specs.Candidate.{opening, same}
 use Rattle.qu_stamp.proofs.Order.{equal_by_same}
 use Rattle.qu_history.specs.History.{holds}
@@ -15,9 +14,7 @@ use Rattle.qu_trace.specs.declared.event.Event.{Event}
 use Rattle.qu_trace.specs.declared.trace.Trace.{Trace}
 use Rattle.qu_world.specs.Step.{world_step}
 use Rattle.qu_world.specs.Run.{IsRun, run, events_of}
-use Rattle.qu_world.specs.State.{WorldState}
 use Rattle.qu_trace.specs.declared.trace.Entry.{Entry}
-use Rattle.qu_runs.proofs.Worlds.Settings.{somewhere_accepted}
 use Rattle.qu_claims.specs.Times.{world_after}
 use Rattle.qu_claims.specs.Origins.{Origin}
 use Rattle.qu_runs.specs.Plain.{ArePlain}
@@ -28,7 +25,7 @@ use Rattle.qu_runs.proofs.Worlds.OpeningReplicas.{opening_holds}
 use Rattle.std.specs.List.{list_any}
 use Rattle.qu_claims.specs.Chained.{last_world}
 use Rattle.qu_claims.specs.Accepted.{accepts, is_accepted}
-use Rattle.qu_claims.specs.Grounds.{IsDelivered, Accepts, IsFound, IsMade}
+use Rattle.qu_claims.specs.Grounds.{IsDelivered, Accepts, IsFound, IsMade, made_on}
 use Rattle.qu_history.specs.Sets.{order_of, entries_of}
 use Rattle.qu_claims.specs.RunSetting.{setting}
 use Rattle.qu_chain.proofs.Ancestry.{Acceptor, acceptor}
@@ -151,7 +148,8 @@ module _ (trace : Trace) (is_run : IsRun trace) (have : ArePlain trace) where
               delivered = delivered;
               is_candidate = refl;
               made = subst (λ (bounds : ℕ).
-                  IsMade bounds (asked_of one.client one.number one.sets one.asks) object (one.candidates object))
+                  IsMade bounds (asked_of one.client one.number one.sets one.asks) (made_on one.asks) object
+                  (one.candidates object))
                   (mid_bounds trace count place old new handles) made;
             })
             | inr found ↦
@@ -224,38 +222,9 @@ accepted_from trace is_run have object candidate accepted =
     any_place (accepts object candidate) (last_world trace).replicas accepted in
     origin trace is_run have (length trace.entries) (omega arith) found.0 found.1 found.2 object candidate found.3
 
--- no accepted candidate has a group, since what is asked is of one object
-pub no_group_yet : (trace : Trace) → IsRun trace → ArePlain trace → (time : ℕ) → time ≤ length trace.entries
-    → (object : ObjectId) (candidate : Candidate) → IsTrue (is_accepted (world_after trace time) object candidate)
-    → candidate.group ≡ []
-no_group_yet trace is_run have time within object candidate accepted =
-    let found : (place : ℕ) × (state : ReplicaState) × (slice_get (world_after trace time).replicas place ≡ Some state)
-    × (accepts object candidate state ≡ true) =
-    any_place (accepts object candidate) (world_after trace time).replicas accepted in
-    elim (origin trace is_run have time within found.0 found.1 found.2 object candidate found.3) [
-      | inl is ↦ ap (λ (it : Candidate). it.group) is
-      | inr came ↦ (came.made).group
-    ]
-
 -- after the last event the world stays as it is
-world_ends : (trace : Trace) (time : ℕ) → length trace.entries ≤ time
+pub world_ends : (trace : Trace) (time : ℕ) → length trace.entries ≤ time
     → world_after trace time ≡ world_after trace (length trace.entries)
 world_ends trace time past =
     ap (λ (entries : List Entry). run trace.setup (events_of entries))
     (take_all time trace.entries past ∙ sym (take_all (length trace.entries) trace.entries (omega arith)))
-
--- so it has no member on any object
-pub no_member_yet : (trace : Trace) → IsRun trace → ArePlain trace → (time place : ℕ) (object : ObjectId)
-    (candidate : Candidate) → (setting trace).accepted time object place candidate ≡ true → (other : ObjectId)
-    → (setting trace).member candidate other ≡ None
-unfolding setting
-no_member_yet trace is_run have time place object candidate accepted other =
-    let there : IsTrue (is_accepted (world_after trace time) object candidate) =
-    somewhere_accepted object candidate (world_after trace time).replicas place accepted in
-    let alone : candidate.group ≡ [] =
-    elim (cases_lt time (length trace.entries)) [
-      | inl within ↦ no_group_yet trace is_run have time (omega (arith, within)) object candidate there
-      | inr past ↦ no_group_yet trace is_run have (length trace.entries) (omega arith) object candidate
-          (subst (λ (world : WorldState). is_accepted world object candidate ≡ true) (world_ends trace time past) there)
-    ] in
-    alone_has_no_member candidate other alone

@@ -125,7 +125,7 @@ module _ (trace : Trace) (is_run : IsRun trace) (have : ArePlain trace) where
       (world_after-grows trace time (suc time) (omega arith))).replicas accepted
 
   -- and so at each later time
-  still_accepted : (from to : ℕ) → from ≤ to → (object : ObjectId) (place : ℕ) (candidate : Candidate)
+  pub still_accepted : (from to : ℕ) → from ≤ to → (object : ObjectId) (place : ℕ) (candidate : Candidate)
       → (setting trace).accepted from object place candidate ≡ true
       → (setting trace).accepted to object place candidate ≡ true
   unfolding setting
@@ -231,11 +231,11 @@ module _ (trace : Trace) (is_run : IsRun trace) (have : ArePlain trace) where
         subst (λ (bounds : ℕ). AreWellFormed bounds shown_then)
         (bounds_are trace handles.since place handles.receiver handles.is_receiver)
         (subst (λ (sets : List SetOf). AreWellFormed (handles.receiver).keys.bounds (entries_of object sets)) culls_it
-        (subst (IsFormed handles.receiver) one.is_request
+        ((subst (IsFormed handles.receiver) one.is_request
         (formed_by handles.receiver handles.carried
         (subst AreThresholds (sym (bounds_are trace handles.since place handles.receiver handles.is_receiver))
         (are_thresholds trace.setup.bounds (is_run.setup).some_faults))
-        (handled_fits trace is_run have time within place accepted.old accepted.new handles)) object))
+        (handled_fits trace is_run have time within place accepted.old accepted.new handles)) object).0))
 
     -- so many accepted what is shown that with the faulty ones they are as many as show it
     pub shown_accepted : (other : Candidate)

@@ -2,6 +2,7 @@
 use Rattle.std.proofs.Common.{◌≡◌, ℕ, ◌+◌, ◌<◌, ◌≤◌, ◌==◌, Bool, true, false, cond, List, [], ◌∷◌, length, Some, refl, ap, ◌∙◌, arith}
 use Rattle.std.specs.Prelude.{nat_le}
 use Rattle.std.specs.List.{AllByRecursion}
+use Rattle.std.proofs.lemmas.Bool.{and_from}
 use Rattle.std.proofs.lemmas.Bool.Decides.{nat_tests}
 use Rattle.std.proofs.lemmas.List.{length-append}
 use Rattle.std.proofs.lemmas.List.Sums.{sum_by-cons}
@@ -12,7 +13,6 @@ use Rattle.qu_stamp.specs.declared.stamp.Stamp.{Stamp}
 use Rattle.qu_stamp.specs.Stamp.{same_stamp}
 use Rattle.qu_stamp.proofs.Order.{same_stamp-self}
 use Rattle.qu_history.specs.declared.sealed.Sealed.{Sealed}
-use Rattle.qu_objects.specs.Alike.{same_answer}
 use Rattle.qu_objects.specs.declared.act.Method.{Method}
 use Rattle.qu_objects.specs.declared.answer.Answer.{Answer}
 use Rattle.qu_objects.specs.declared.op.Outcome.TheVariants as outcome
@@ -21,7 +21,7 @@ use Rattle.qu_frames.specs.declared.frame.Body.TheVariants as body
 use Rattle.qu_frames.specs.declared.frame.Frame.TheVariants as frame
 use Rattle.qu_frames.specs.declared.verdict.Verdict.{Verdict}
 use Rattle.qu_frames.specs.declared.verdict.Verdict.TheVariants as verdict
-use Rattle.qu_frames.specs.Verdict.{same_verdict}
+use Rattle.qu_frames.specs.Verdict.{same_stamps, same_verdict}
 use Rattle.qu_client.specs.declared.state.ClientState.{ClientState}
 use Rattle.qu_client.specs.declared.work.Counted.{Counted}
 use Rattle.qu_client.specs.declared.work.Work.{Work}
@@ -30,14 +30,17 @@ use Rattle.qu_question.specs.Kept.{keep_all}
 use Rattle.qu_client.specs.Steps.{stays, ends, identical_verdicts, judged, counts, has_replied, is_asking, with_verdict, client_on_frame}
 use Rattle.qu_world.proofs.Each.{each_append}
 
--- a verdict Done of one object is identical to itself
-same_done : (object : ObjectId) (stamp : Stamp) (answer : Answer)
-    → same_verdict (verdict.Done ((object, stamp) ∷ []) answer) (verdict.Done ((object, stamp) ∷ []) answer) ≡ true
-same_done object stamp answer =
-    let on : (object.0 == object.0) ≡ true = grind (arith, nat_tests) in
-    let at : same_stamp stamp stamp ≡ true = same_stamp-self stamp in
-    let told : same_answer answer answer ≡ true = (decides_answer answer answer).1 refl in
-    rw (on, at, told) refl
+-- a verdict Done is identical to itself
+each_same : (stamps : List (ObjectId × Stamp)) → same_stamps stamps stamps ≡ true
+each_same [] = refl
+each_same (first ∷ later) =
+    let on : ((first.0).0 == (first.0).0) ≡ true = grind (arith, nat_tests) in
+    let at : same_stamp first.1 first.1 ≡ true = same_stamp-self first.1 in
+    and_from _ _ (and_from _ _ on at) (each_same later)
+
+same_done : (stamps : List (ObjectId × Stamp)) (answer : Answer)
+    → same_verdict (verdict.Done stamps answer) (verdict.Done stamps answer) ≡ true
+same_done stamps answer = and_from _ _ (each_same stamps) ((decides_answer answer answer).1 refl)
 
 abbrev pub AllTell : Verdict → List Counted → Type 0
 AllTell told replies = AllByRecursion (λ (counted : Counted). counted.verdict ≡ told) replies
@@ -61,12 +64,12 @@ short : (a b : ℕ) → b < a → nat_le a b ≡ false
 short a b below = grind (arith, nat_tests)
 
 module _ (state : ClientState) (work : Work) (parts : List (ObjectId × Method)) (is_act : work.body ≡ body.Act parts)
-    (asking : is_asking work.phase ≡ true) (under_way : state.work ≡ Some work) (object : ObjectId) (stamp : Stamp)
-    (answer : Answer) (all : AllTell (verdict.Done ((object, stamp) ∷ []) answer) work.replies) (replica : ReplicaId)
-    (first : has_replied work.replies replica.0 ≡ false)
+    (asking : is_asking work.phase ≡ true) (under_way : state.work ≡ Some work)
+    (stamps : List (ObjectId × Stamp)) (answer : Answer) (all : AllTell (verdict.Done stamps answer) work.replies)
+    (replica : ReplicaId) (first : has_replied work.replies replica.0 ≡ false)
     (culled : List (ObjectId × ReplicaId)) (shown : List Sealed) (mac : List ℕ) where
   abbrev told : Verdict
-  told = verdict.Done ((object, stamp) ∷ []) answer
+  told = verdict.Done stamps answer
 
   abbrev kept : ClientState
   kept = record state { kept = keep_all work.number work.round shown state.kept }
@@ -93,7 +96,7 @@ module _ (state : ClientState) (work : Work) (parts : List (ObjectId × Method))
 
   identical_after : identical_verdicts told after.replies ≡ length work.replies + 1
   identical_after =
-      identical_all told (same_done object stamp answer) after.replies
+      identical_all told (same_done stamps answer) after.replies
       (each_append (λ (counted : Counted). counted.verdict ≡ told) work.replies
       (record { replica = replica; verdict = told; culled = culled } ∷ []) all (refl, tt)) ∙
       length_after

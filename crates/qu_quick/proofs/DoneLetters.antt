@@ -55,8 +55,10 @@ use Rattle.qu_runs.proofs.Worlds.Keyed.{HasKeys, clients_keyed}
 use Rattle.qu_runs.proofs.Worlds.OpeningReplicas.{keys_are, me_is}
 use Rattle.qu_runs.proofs.Worlds.WorldGrowth.{world_after-next}
 use Rattle.qu_known.proofs.Lengths.{reply-short}
-use Rattle.qu_quick.specs.Done.{parts_on, act_on, done_verdict, IsReady, IsDoneAt}
-use Rattle.qu_quick.proofs.DoneRows.{accepted_one, done_forward}
+use Rattle.qu_frames.specs.declared.frame.Body.TheVariants as body
+use Rattle.qu_base.specs.declared.party.ObjectId.{ObjectId}
+use Rattle.qu_quick.specs.Done.{done_verdict, IsReady, IsDoneAt}
+use Rattle.qu_quick.proofs.DoneRows.{accepted_all, done_forward}
 
 -- whoever is brought a frame shares a key with its sender, and so the other way
 key_back : (ring : Ring) (me : ReplicaId) (text : List ℕ) (taken : Frame) (client : ClientId)
@@ -129,86 +131,87 @@ module _ (trace : Trace) (is_run : IsRun trace) (have : ArePlain trace) (at : �
       ap (λ (it : WorldState). slice_get it.replicas place) world_is ∙
       set_here (world_after trace at).replicas place old (replica_step old text).0 is_old
 
-  module _ (client : ClientId) (number round : ℕ) (set : SetOf) (method : Method) (mac : List ℕ)
-      (brings : Brings old text (frame.Request client number round (set ∷ []) (act_on set method) mac)) where
+  module _ (client : ClientId) (number round : ℕ) (sets : List SetOf) (parts : List (ObjectId × Method)) (mac : List ℕ)
+      (brings : Brings old text (frame.Request client number round sets (body.Act parts) mac)) where
     abbrev asking_so : TakenRequest
     asking_so = record {
       client = client;
       number = number;
       round = round;
-      sets = set ∷ [];
-      body = act_on set method;
+      sets = sets;
+      body = body.Act parts;
       mac = mac;
     }
 
     abbrev asking : Frame
-    asking = frame.Request client number round (set ∷ []) (act_on set method) mac
+    asking = frame.Request client number round sets (body.Act parts) mac
 
     request_fits : frame_form.Fits asking
     request_fits =
-        handed_fits trace is_run have at entry below (party.Replica (record { 0 = place })) text
+        handed_fits trace is_run have.typed at entry below (party.Replica (record { 0 = place })) text
         (ap (handed (world_after trace at)) event_is ∙ is_handed) asking (brings_decoded old text asking brings)
 
-    pub act_parts : IsTrue (are_parts (parts_on set method))
+    pub act_parts : IsTrue (are_parts parts)
     act_parts = fits_parts asking request_fits
 
-    module _ (base : Candidate) (version : ObjState) (ready : IsReady old client number set base version) where
+    module _ (bases : ObjectId → Candidate) (versions : ObjectId → ObjState)
+        (ready : IsReady old client number sets parts bases versions) where
       abbrev verdict_is : Verdict
-      verdict_is = done_verdict client number set method version
+      verdict_is = done_verdict client number sets parts versions
 
       accepted_here : List Accepted
-      accepted_here = accepted_one old client number set method base version act_parts ready
+      accepted_here = accepted_all old client number sets parts bases versions act_parts ready
 
       new : ReplicaState
       new = accept_all old accepted_here
 
-      step_is : replica_step old text ≡ (new, reply new client number round (set ∷ []) verdict_is ∷ [])
+      step_is : replica_step old text ≡ (new, reply new client number round sets verdict_is ∷ [])
       unfolding new accepted_here
       step_is =
           ap (replica_on_received old) brings ∙
           ap (carried_out old asking_so)
-          (done_forward old client number set method base version act_parts ready)
+          (done_forward old client number sets parts bases versions act_parts ready)
 
       grows : Grows old new
       unfolding new
       grows = accept_all-grows old accepted_here
 
-      answer_fits : frame_form.Fits (answer_frame new client number round (set ∷ []) verdict_is)
+      answer_fits : frame_form.Fits (answer_frame new client number round sets verdict_is)
       unfolding new accepted_here
       answer_fits =
-          (fit_step trace is_run have at below).answers (record { 0 = place }) old is_old asking request_fits asking_so
-          refl verdict_is
-          accepted_here (done_forward old client number set method base version act_parts ready)
+          (fit_step trace is_run have.typed at below).answers (record { 0 = place }) old is_old asking request_fits
+          asking_so refl verdict_is accepted_here
+          (done_forward old client number sets parts bases versions act_parts ready)
 
       key : have_key new.keys (party.Replica new.me) (party.Client client) ≡ true
       key =
           (λ i. have_key (grows.keys i) (party.Replica (grows.me i)) (party.Client client)) ∙
           key_back old.keys old.me text asking client refl brings
 
-      named_none : named new (set ∷ []) ≡ []
+      named_none : named new sets ≡ []
       unfolding new
       named_none =
-          accept_all-named old accepted_here (set ∷ []) ∙
-          names_none old (set ∷ []) (none_left_out old.keys old.me (set ∷ []) ready.right)
+          accept_all-named old accepted_here sets ∙
+          names_none old sets (none_left_out old.keys old.me sets ready.right)
 
       seal : List ℕ
-      seal = signature new.keys (party.Client client) (answer_frame new client number round (set ∷ []) verdict_is)
+      seal = signature new.keys (party.Client client) (answer_frame new client number round sets verdict_is)
 
       ring_brought : brought (ring_of trace.setup) (party.Client client)
-          (reply new client number round (set ∷ []) verdict_is).text
+          (reply new client number round sets verdict_is).text
           ≡ Some (frame.Reply (record { 0 = place }) client number round verdict_is [] (map (sealed_by new.keys)
-          (shown new (set ∷ [])))
+          (shown new sets))
           seal)
       unfolding seal
       ring_brought =
           let ring : new.keys ≡ ring_of trace.setup = grows.keys ∙ keys_are trace at place old is_old in
           let me : new.me ≡ record { 0 = place } = grows.me ∙ me_is trace at place old is_old in
           ap (λ (it : Ring). brought it (party.Client client) (reply new client number round
-          (set ∷ []) verdict_is).text)
+          sets verdict_is).text)
           (sym ring) ∙
-          reply_brought new client number round (set ∷ []) verdict_is answer_fits key ∙
+          reply_brought new client number round sets verdict_is answer_fits key ∙
           (λ i. Some (frame.Reply (me i) client number round verdict_is (named_none i)
-          (map (sealed_by new.keys) (shown new (set ∷ []))) seal))
+          (map (sealed_by new.keys) (shown new sets)) seal))
 
       -- what the replica of the event does: its one letter is the reply that tells Done
       pub done_at : IsDoneAt trace at place client number round verdict_is
@@ -216,15 +219,15 @@ module _ (trace : Trace) (is_run : IsRun trace) (have : ArePlain trace) (at : �
       done_at = record {
         entry = entry;
         is_entry = is_entry;
-        letter = reply new client number round (set ∷ []) verdict_is;
+        letter = reply new client number round sets verdict_is;
         letters = letters_are ∙ ap (λ (it : ReplicaState × List Letter). it.1) step_is;
-        shown = map (sealed_by new.keys) (shown new (set ∷ []));
+        shown = map (sealed_by new.keys) (shown new sets);
         mac = seal;
         brings = λ count within state is_state.
             let keyed : HasKeys (ring_of trace.setup) client.0 state = clients_keyed trace count within client.0
             state is_state in
             (λ i. brought (keyed.keys_are i) (party.Client (keyed.me i)) (reply new client number round
-            (set ∷ []) verdict_is).text) ∙
+            sets verdict_is).text) ∙
             ring_brought;
       }
 

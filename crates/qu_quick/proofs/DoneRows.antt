@@ -1,6 +1,7 @@
 -- A replica that is ready for an act performs it: rows 1 to 9 of its table decide nothing, and row 10 is Done.
-use Rattle.std.proofs.Common.{◌≡◌, ℕ, ◌<◌, ◌≤◌, ◌==◌, Bool, true, false, List, [], ◌∷◌, length, Option, None, Some, IsTrue, refl, sym, ap, subst, ◌∙◌, arith}
-use Rattle.std.specs.Prelude.{nat_le, nat_lt, find, option_map}
+use Rattle.std.proofs.Common.{◌≡◌, ℕ, ◌<◌, ◌≤◌, ◌&&◌, ◌||◌, Bool, true, false, cond, map, inl, List, [], ◌∷◌, length, Option, None, Some, IsTrue, refl, sym, ap, subst, ◌∙◌, arith}
+use Rattle.std.specs.Prelude.{nat_le, nat_lt, find, is_none, option_map, option_and_then}
+use Rattle.std.specs.List.{AllByRecursion, list_all, list_any}
 use Rattle.std.proofs.lemmas.Bool.{false≢true}
 use Rattle.std.proofs.lemmas.Bool.Decides.{nat_tests}
 use Rattle.std.proofs.lemmas.List.{length-map}
@@ -16,8 +17,7 @@ use Rattle.qu_stamp.proofs.Order.{is_below-self}
 use Rattle.qu_history.specs.declared.limits.TheConstants.{HISTORY_LIMIT}
 use Rattle.qu_history.specs.declared.sets.SetOf.{SetOf}
 use Rattle.qu_history.specs.History.{ObjectHistory, holds}
-use Rattle.qu_history.specs.Sets.{histories, entries_of, latest_of, order_of}
-use Rattle.qu_history.proofs.Method.{order_of_most}
+use Rattle.qu_history.specs.Sets.{histories, latest_of}
 use Rattle.qu_history.proofs.RightSeals.{culled_whole}
 use Rattle.qu_objects.specs.declared.act.Method.{Method}
 use Rattle.qu_objects.specs.declared.state.ObjState.{ObjState}
@@ -32,12 +32,21 @@ use Rattle.qu_mends.specs.declared.accepted.Accepted.{Accepted}
 use Rattle.qu_rows.specs.declared.decision.Decision.{Decision}
 use Rattle.qu_rows.specs.declared.decision.Decision.TheVariants.{Answers, Waits}
 use Rattle.qu_rows.specs.State.{ReplicaState, own_candidates, own_latest}
-use Rattle.qu_rows.specs.Rows.{Asked, asked_of, asked_at, refuse, shown_of, base_version, fresh_stamp, fresh_act, is_held, repeated, row_unknown, row_thin, row_retry, row_current, row_method, row_version, row_kept, row_time, row_full, row_done, decide_act, decision_on}
-use Rattle.qu_fitting.proofs.CarriedEach.{accepted_each, fresh_candidates, versions_made, versions_each, done_each}
+use Rattle.qu_rows.specs.Rows.{Asked, asked_of, asked_at, refuse, shown_of, method_base, base_version, base_stamps, missing_of, class_told, fresh_stamp, fresh_stamps, fresh_versions, standing_in, done_again, is_held, repeated, row_unknown, row_thin, row_retry, row_current, row_method, row_version, row_kept, row_time, row_full, row_done, decide_act, decision_on}
+use Rattle.qu_fitting.proofs.CarriedEach.{AreBases, AreBefores, accepted_each, fresh_upon, fresh_candidates, versions_made, versions_each, done_each}
 use Rattle.qu_mends.specs.Table.{first_given}
-use Rattle.qu_claims.specs.Grounds.{IsGround}
-use Rattle.qu_grounds.proofs.Grounds.{IsBase, is_base, above_held}
-use Rattle.qu_quick.specs.Done.{parts_on, act_on, done_verdict, IsReady}
+use Rattle.qu_frames.specs.declared.frame.Body.TheVariants as body
+use Rattle.qu_frames.specs.declared.verdict.Verdict.TheVariants as verdict
+use Rattle.qu_objects.specs.declared.kind.Value.{Value}
+use Rattle.qu_objects.specs.Performing.{performed_answer}
+use Rattle.qu_kept.specs.Rows.{row_of}
+use Rattle.qu_kept.specs.Standing.{AreLower, IsLower}
+use Rattle.qu_kept.proofs.EachObject.{objects_named, distinct_parts, values_are-before}
+use Rattle.qu_versions.specs.Versions.{version_at}
+use Rattle.qu_claims.specs.Parts.{Names}
+use Rattle.qu_grounds.proofs.Grounds.{IsBase, is_base, fresh_above}
+use Rattle.qu_replies.proofs.EachOf.{all_named, each_made}
+use Rattle.qu_quick.specs.Done.{done_stamps, done_verdict, IsReady}
 
 -- ---- small ones
 
@@ -47,17 +56,38 @@ above_not_below a b below = grind (arith, nat_tests)
 enough_not_few : (a b : ℕ) → a ≤ b → nat_lt b a ≡ false
 enough_not_few a b enough = grind (arith, nat_tests)
 
--- one item that is not bad refuses nothing
-pass_one : {A : Type 0} (why : A → Refusal) (bad : A → Bool) (item : A) → bad item ≡ false
-    → option_map (λ it. refuse (why it)) (find bad (item ∷ [])) ≡ None
-pass_one why bad item good = rw good refl
+-- where no item is bad, nothing is refused
+none_found : {A : Type 0} (bad : A → Bool) (items : List A) → AllByRecursion (λ item. bad item ≡ false) items
+    → find bad items ≡ None
+none_found bad [] good = refl
+none_found bad (item ∷ later) good =
+    ap (λ (test : Bool). cond test (Some item) (find bad later)) good.0 ∙ none_found bad later good.1
 
--- the entries of the one set
-pub entries_here : (set : SetOf) → entries_of set.object (set ∷ []) ≡ histories set.entries
-unfolding entries_of
-entries_here set =
-    let same : ((set.object).0 == (set.object).0) ≡ true = grind (arith, nat_tests) in
-    rw same refl
+none_refused : {A : Type 0} (why : A → Refusal) (bad : A → Bool) (items : List A)
+    → AllByRecursion (λ item. bad item ≡ false) items → option_map (λ it. refuse (why it)) (find bad items) ≡ None
+none_refused why bad items good = ap (option_map (λ it. refuse (why it))) (none_found bad items good)
+
+none_any : {A : Type 0} (bad : A → Bool) (items : List A) → AllByRecursion (λ item. bad item ≡ false) items
+    → list_any bad items ≡ false
+none_any bad [] good = refl
+none_any bad (item ∷ later) good = ap (λ (test : Bool). test || list_any bad later) good.0 ∙ none_any bad later good.1
+
+all_weaker : {A : Type 0} (P Q : A → Type 0) → ((item : A) → P item → Q item) → (items : List A)
+    → AllByRecursion P items → AllByRecursion Q items
+all_weaker P Q weaker [] all = tt
+all_weaker P Q weaker (item ∷ later) all = (weaker item all.0, all_weaker P Q weaker later all.1)
+
+-- an operation has a part
+some_part : {X : Type 0} (parts : List (ObjectId × X)) → IsTrue (are_parts parts) → 1 ≤ length parts
+some_part [] is = absurd (false≢true is)
+some_part (part ∷ later) is = omega arith
+
+-- where a test fails on each object, it does not hold on all of some
+not_all : (test : ObjectId → Bool) (parts : List (ObjectId × Method)) → 1 ≤ length parts
+    → ((object : ObjectId) → Names parts object → test object ≡ false) → list_all test (objects_named parts) ≡ false
+not_all test [] some fails = absurd (omega (arith, some))
+not_all test (part ∷ later) some fails =
+    ap (λ (first : Bool). first && list_all test (objects_named later)) (fails part.0 (inl refl))
 
 last_row : (u t r c m v k i f d : Option Decision) (decision : Decision)
     → u ≡ None → t ≡ None → r ≡ None → c ≡ None → m ≡ None → v ≡ None → k ≡ None → i ≡ None → f ≡ None
@@ -69,144 +99,169 @@ last_row u t r c m v k i f d decision pu pt pr pc pm pv pk pi pf pd =
 
 -- ---- the rows
 
-module _ (state : ReplicaState) (client : ClientId) (number : ℕ) (set : SetOf) (method : Method) (base : Candidate)
-    (version : ObjState) (fits : IsTrue (are_parts (parts_on set method)))
-    (ready : IsReady state client number set base version) where
-  abbrev object : ObjectId
-  object = set.object
-
+module _ (state : ReplicaState) (client : ClientId) (number : ℕ) (sets : List SetOf) (parts : List (ObjectId × Method))
+    (bases : ObjectId → Candidate) (versions : ObjectId → ObjState) (fits : IsTrue (are_parts parts))
+    (ready : IsReady state client number sets parts bases versions) where
   abbrev objects : List ObjectId
-  objects = set.object ∷ []
+  objects = objects_named parts
 
   abbrev asked : Asked
-  asked = asked_of client number (set ∷ []) (act_on set method)
+  asked = asked_of client number sets (body.Act parts)
 
-  abbrev shown : List ObjectHistory
-  shown = entries_of set.object (set ∷ [])
+  abbrev shown : ObjectId → List ObjectHistory
+  shown object = shown_of asked object
 
-  abbrev bases : ObjectId → Candidate
-  bases it = base
+  abbrev fresh : ObjectId → Candidate
+  fresh = fresh_candidates state asked bases versions
 
-  abbrev befores : ObjectId → ObjState
-  befores it = version
+  each : (P : ObjectId → Type 0) → ((object : ObjectId) → Names parts object → P object) → AllByRecursion P objects
+  each P gives = all_named P parts gives
 
-  abbrev fresh : Candidate
-  fresh = record { stamp = fresh_stamp asked set.object; prior = base.stamp; group = [] }
+  based : (object : ObjectId) → Names parts object → IsBase state.keys.bounds (shown object) (bases object)
+  based object names = is_base state.keys.bounds (shown object) (bases object) (ready.each object names).method
 
-  based : IsBase state.keys.bounds shown base
-  based = is_base state.keys.bounds shown base ready.method
+  is_current : (object : ObjectId) → Names parts object
+      → is_below (latest_of (shown object)) (own_latest state object) ≡ false
+  is_current object names =
+      ap (λ (stamp : Stamp). is_below stamp (own_latest state object)) (sym (based object names).latest)
+      ∙ (ready.each object names).current
 
-  is_current : is_below (latest_of shown) (own_latest state object) ≡ false
-  is_current =
-      ap (λ (stamp : Stamp). is_below stamp (own_latest state object)) (sym based.latest) ∙ ready.current
+  version_found : (object : ObjectId) → Names parts object → base_version state asked object ≡ Some (versions object)
+  version_found object names =
+      ap (option_and_then (λ (base : Candidate). version_at object base.stamp state.versions))
+      (ready.each object names).method ∙ (ready.each object names).stored
 
-  grounds : IsGround state asked object fresh base
-  grounds = record { method = ready.method; prior = refl; group = refl; stamp = refl; current = is_current }
+  bases_are : AreBases state asked bases versions objects
+  bases_are =
+      each (λ object. method_base state asked object ≡ Some (bases object))
+      (λ object names. (ready.each object names).method)
 
-  fresh_is : fresh_act state asked object ≡ Some fresh
-  fresh_is = rw (ready.method) refl
-
-  version_found : base_version state asked object ≡ Some version
-  version_found = rw (ready.method, ready.stored) refl
+  befores_are : AreBefores state asked bases versions objects
+  befores_are = each (λ object. base_version state asked object ≡ Some (versions object)) version_found
 
   unknown : row_unknown state asked ≡ None
   unfolding row_unknown
   unknown =
-      pass_one (λ (it : SetOf). refusal.UnknownObject it.object) (λ (it : SetOf). nat_le (length state.histories)
-      (it.object).0) set
-      (above_not_below (length state.histories) object.0 ready.known)
-
-  enough : quorum state.keys.bounds ≤ length set.entries
-  enough =
-      let full : quorum state.keys.bounds ≤ order_of base shown = based.of_quorum in
-      let most : order_of base shown ≤ length shown = order_of_most base shown in
-      let here : length shown ≡ length set.entries =
-      ap (λ (them : List ObjectHistory). length them) (entries_here set) ∙ length-map set.entries
-      (λ sealed. sealed.history) in
-      omega (arith, full, most, here)
+      none_refused (λ (it : SetOf). refusal.UnknownObject it.object)
+      (λ (it : SetOf). nat_le (length state.histories) (it.object).0) sets
+      (all_weaker (λ (it : SetOf). (it.object).0 < length state.histories)
+      (λ (it : SetOf). nat_le (length state.histories) (it.object).0 ≡ false)
+      (λ it below. above_not_below (length state.histories) (it.object).0 below) sets ready.known)
 
   thin : row_thin state asked ≡ None
   unfolding row_thin
   thin =
-      pass_one (λ (it : SetOf). refusal.Thin it.object) (λ (it : SetOf). nat_lt (length it.entries)
-      (quorum state.keys.bounds)) set
-      (enough_not_few (quorum state.keys.bounds) (length set.entries) enough)
+      none_refused (λ (it : SetOf). refusal.Thin it.object)
+      (λ (it : SetOf). nat_lt (length it.entries) (quorum state.keys.bounds)) sets
+      (all_weaker (λ (it : SetOf). quorum state.keys.bounds ≤ length it.entries)
+      (λ (it : SetOf). nat_lt (length it.entries) (quorum state.keys.bounds) ≡ false)
+      (λ it many. enough_not_few (quorum state.keys.bounds) (length it.entries) many) sets ready.enough)
 
   -- what the act would make is above all that the replica has
-  not_held : (test : Bool) → holds fresh (own_candidates state object) ≡ test → test ≡ false
-  not_held false is = refl
-  not_held true is =
-      absurd (false≢true (sym (is_below-self fresh.stamp) ∙ above_held grounds fresh is))
+  not_held : (object : ObjectId) → Names parts object → (test : Bool)
+      → holds (fresh object) (own_candidates state object) ≡ test → test ≡ false
+  not_held object names false is = refl
+  not_held object names true is =
+      absurd (false≢true (sym (is_below-self (fresh object).stamp)
+      ∙ fresh_above state asked object (is_current object names) (fresh object) is))
 
-  held_none : is_held state asked object ≡ false
+  held_none : (object : ObjectId) → Names parts object → is_held state asked object ≡ false
   unfolding is_held
-  held_none = rw (is_held, ready.method) (not_held (holds fresh (own_candidates state object)) refl)
+  held_none object names =
+      ap (λ (found : Option Candidate). elim (option_map (fresh_upon asked object) found) [
+        | None ↦ false
+        | Some made ↦ holds made (own_candidates state object)
+      ]) (ready.each object names).method
+      ∙ not_held object names (holds (fresh object) (own_candidates state object)) refl
 
-  retry : row_retry state asked (parts_on set method) objects ≡ None
+  retry : row_retry state asked parts objects ≡ None
   unfolding row_retry
-  retry = rw held_none refl
+  retry =
+      ap (λ (test : Bool). cond test
+      (done_again (fresh_stamps state asked objects) (standing_in asked parts (fresh_versions state asked objects)))
+      None)
+      (not_all (is_held state asked) parts (some_part parts fits) held_none)
 
   current : row_current state asked objects ≡ None
   unfolding row_current
   current =
-      pass_one (λ (it : ObjectId). refusal.NotCurrent it (own_latest state it))
-      (λ (it : ObjectId). is_below (latest_of (shown_of asked it)) (own_latest state it)) object is_current
+      none_refused (λ (it : ObjectId). refusal.NotCurrent it (own_latest state it))
+      (λ (it : ObjectId). is_below (latest_of (shown_of asked it)) (own_latest state it)) objects
+      (each (λ it. is_below (latest_of (shown_of asked it)) (own_latest state it) ≡ false) is_current)
 
   of_method : row_method state asked objects ≡ None
   unfolding row_method
-  of_method = rw (ready.method) refl
+  of_method =
+      none_refused (λ (it : ObjectId). refusal.NotMethod it (class_told state asked it))
+      (λ (it : ObjectId). is_none (method_base state asked it)) objects
+      (each (λ it. is_none (method_base state asked it) ≡ false)
+      (λ it names. ap (λ (found : Option Candidate). is_none found) (ready.each it names).method))
 
   has_version : row_version state asked objects ≡ None
   unfolding row_version
-  has_version = rw version_found refl
+  has_version =
+      ap (λ (test : Bool). cond test (Some (Waits (missing_of state (base_stamps state asked objects)))) None)
+      (none_any (λ (it : ObjectId). is_none (base_version state asked it)) objects
+      (each (λ it. is_none (base_version state asked it) ≡ false)
+      (λ it names. ap (λ (found : Option ObjState). is_none found) (version_found it names))))
 
-  kept : row_kept state asked (parts_on set method) objects ≡ None
+  kept : row_kept state asked parts objects ≡ None
   unfolding row_kept
   kept =
-      let act : Digest = act_digest client number (parts_on set method) in
-      let stands : standing_of client number act (parts_on set method) (version ∷ []) ≡ Fresh =
-      (fresh_where client number act (parts_on set method) (version ∷ []) fits refl).1 (ready.lower, tt) in
-      ap (λ (states : List ObjState). repeated (standing_of client number act (parts_on set method) states))
-      (versions_each state asked bases befores objects (version_found, tt)) ∙ ap repeated stands
+      let act : Digest = act_digest client number parts in
+      let size : length (map versions objects) ≡ length parts =
+      length-map objects versions ∙ length-map parts (λ part. part.0) in
+      let lower : AreLower client number (map versions objects) =
+      each_made versions (λ (it : ObjState). IsLower number (row_of client it.kept)) objects
+      (each (λ it. IsLower number (row_of client (versions it).kept)) (λ it names. (ready.each it names).lower)) in
+      let stands : standing_of client number act parts (map versions objects) ≡ Fresh =
+      (fresh_where client number act parts (map versions objects) fits size).1 lower in
+      ap (λ (states : List ObjState). repeated (standing_of client number act parts states))
+      (versions_each state asked bases versions objects befores_are) ∙ ap repeated stands
 
   time : row_time state asked objects ≡ None
   unfolding row_time
   time =
-      pass_one refusal.TimeSpent (λ (it : ObjectId). nat_le LAST_TIME (latest_of (shown_of asked it)).time) object
-      (above_not_below LAST_TIME (latest_of shown).time
-      (subst (λ (stamp : Stamp). stamp.time < LAST_TIME) based.latest ready.in_time))
+      none_refused refusal.TimeSpent (λ (it : ObjectId). nat_le LAST_TIME (latest_of (shown_of asked it)).time) objects
+      (each (λ it. nat_le LAST_TIME (latest_of (shown_of asked it)).time ≡ false)
+      (λ it names. above_not_below LAST_TIME (latest_of (shown it)).time
+      (subst (λ (stamp : Stamp). stamp.time < LAST_TIME) (based it names).latest (ready.each it names).in_time)))
 
   full : row_full state asked objects ≡ None
   unfolding row_full
   full =
-      pass_one refusal.HistoryFull (λ (it : ObjectId). nat_le HISTORY_LIMIT (length (own_candidates state it))) object
-      (above_not_below HISTORY_LIMIT (length (own_candidates state object)) ready.room)
+      none_refused refusal.HistoryFull (λ (it : ObjectId). nat_le HISTORY_LIMIT (length (own_candidates state it)))
+      objects
+      (each (λ it. nat_le HISTORY_LIMIT (length (own_candidates state it)) ≡ false)
+      (λ it names. above_not_below HISTORY_LIMIT (length (own_candidates state it)) (ready.each it names).room))
 
   -- ---- what is decided
 
-  -- what is accepted: the fresh candidate, with the version that the act makes of the base's
-  pub accepted_one : List Accepted
-  accepted_one =
-      accepted_each (fresh_candidates state asked bases befores)
-      (versions_made state asked bases befores (parts_on set method)) objects
+  -- what is accepted: the fresh candidates, with the versions that the act makes of those of the bases
+  pub accepted_all : List Accepted
+  accepted_all = accepted_each fresh (versions_made state asked bases versions parts) objects
 
-  done : row_done state asked (parts_on set method) objects
-      ≡ Some (Answers (done_verdict client number set method version) accepted_one)
-  unfolding accepted_one
-  done = done_each state asked bases befores (parts_on set method) (tt, tt) (ready.method, tt) (version_found, tt)
+  done : row_done state asked parts objects
+      ≡ Some (Answers (done_verdict client number sets parts versions) accepted_all)
+  unfolding accepted_all
+  done =
+      done_each state asked bases versions parts (distinct_parts parts fits) bases_are befores_are
+      ∙ ap (λ (values : List Value). Some (Answers (verdict.Done (done_stamps client number sets parts)
+      (performed_answer parts values)) (accepted_each fresh (versions_made state asked bases versions parts) objects)))
+      (values_are-before client number parts (fresh_stamp asked) versions parts)
 
-  decided : decision_on state asked (act_on set method)
-      ≡ Answers (done_verdict client number set method version) accepted_one
+  decided : decision_on state asked (body.Act parts)
+      ≡ Answers (done_verdict client number sets parts versions) accepted_all
   unfolding decide_act
   decided = last_row _ _ _ _ _ _ _ _ _ _ _ unknown thin retry current of_method has_version kept time full done
 
   -- nothing is culled
-  pub same_asked : asked_at state client number (set ∷ []) (act_on set method) ≡ asked
+  pub same_asked : asked_at state client number sets (body.Act parts) ≡ asked
   same_asked =
-      ap (λ (sets : List SetOf). asked_of client number sets (act_on set method))
-      (culled_whole state.keys state.me (set ∷ []) ready.right)
+      ap (λ (them : List SetOf). asked_of client number them (body.Act parts))
+      (culled_whole state.keys state.me sets ready.right)
 
   -- so the act is done
-  pub done_forward : decision_on state (asked_at state client number (set ∷ []) (act_on set method)) (act_on set method)
-      ≡ Answers (done_verdict client number set method version) accepted_one
-  done_forward = ap (λ (it : Asked). decision_on state it (act_on set method)) same_asked ∙ decided
+  pub done_forward : decision_on state (asked_at state client number sets (body.Act parts)) (body.Act parts)
+      ≡ Answers (done_verdict client number sets parts versions) accepted_all
+  done_forward = ap (λ (it : Asked). decision_on state it (body.Act parts)) same_asked ∙ decided

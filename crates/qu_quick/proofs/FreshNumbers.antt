@@ -42,7 +42,7 @@ use Rattle.qu_laws.proofs.Acceptors.{method_is_shown}
 use Rattle.qu_shown.proofs.AskedLetters.{AskedBy}
 use Rattle.qu_rounds.specs.Invocations.{IsRequestOf}
 use Rattle.qu_values.proofs.Requests.ClientFacts.{IsAskedBy, ClientFacts}
-use Rattle.qu_values.proofs.Updating.OneAct.{ActsAreOne, one_made_for}
+use Rattle.qu_runs.proofs.Acts.OneAct.{ActsAreOne, one_made_for}
 use Rattle.qu_values.proofs.Updating.UpdateFacts.{UpdateFacts}
 use Rattle.qu_values.proofs.Updating.Updates.{acts, last_is}
 use Rattle.qu_values.proofs.Versions.EverAccepted.{quorum_ever}

@@ -124,9 +124,9 @@ module _ (trace : Trace) (is_run : IsRun trace) (have : ArePlain trace) (client 
 
   -- ---- one reply after another
 
-  module _ (parts : List (ObjectId × Method)) (object : ObjectId) (stamp : Stamp) (answer : Answer) where
+  module _ (parts : List (ObjectId × Method)) (stamps : List (ObjectId × Stamp)) (answer : Answer) where
     abbrev told : Verdict
-    told = verdict.Done ((object, stamp) ∷ []) answer
+    told = verdict.Done stamps answer
 
     -- at the turn's last event the client takes the verdict of its replica
     pub record IsHeard (turn : RoundTurn) : Type 0 where
@@ -212,7 +212,7 @@ module _ (trace : Trace) (is_run : IsRun trace) (have : ArePlain trace) (client 
       module _ (few : length work.replies + 1 < quorum trace.setup.bounds) where
         waits : client_step state heard.text ≡ stays (record kept { work = Some after })
         waits =
-            takes ∙ waits_below state work parts waiting.is_act waiting.asking waiting.under_way object stamp answer
+            takes ∙ waits_below state work parts waiting.is_act waiting.asking waiting.under_way stamps answer
             waiting.all (record { 0 = turn.replica }) first [] heard.shown heard.mac
             (subst (λ (it : ℕ). length work.replies + 1 < quorum it) (sym bounds_here) few)
 
@@ -252,7 +252,7 @@ module _ (trace : Trace) (is_run : IsRun trace) (have : ArePlain trace) (client 
       module _ (many : quorum trace.setup.bounds ≤ length work.replies + 1) where
         stops : client_step state heard.text ≡ ends kept (outcome.Done answer)
         stops =
-            takes ∙ ends_at state work parts waiting.is_act waiting.asking waiting.under_way object stamp answer
+            takes ∙ ends_at state work parts waiting.is_act waiting.asking waiting.under_way stamps answer
             waiting.all (record { 0 = turn.replica }) first [] heard.shown heard.mac
             (subst (λ (it : ℕ). quorum it ≤ length work.replies + 1) (sym bounds_here) many)
 

@@ -1,10 +1,10 @@
 -- The event at which an act begins whose cached histories are current, in a run: the request that is sent, and the
 -- client after it.
-use Rattle.std.proofs.Common.{◌≡◌, ℕ, suc, ◌+◌, ◌<◌, false, List, [], ◌∷◌, ◌++◌, length, map, Option, None, Some, IsTrue, refl, sym, ap, subst, ◌∙◌, arith}
+use Rattle.std.proofs.Common.{◌≡◌, ℕ, suc, ◌+◌, ◌<◌, false, List, [], ◌∷◌, ◌++◌, length, map, Option, None, Some, refl, sym, ap, subst, ◌∙◌, arith}
 use Rattle.std.specs.Prelude.{slice_get, Contains}
 use Rattle.std.proofs.lemmas.List.{length-map}
 use Rattle.std.proofs.lemmas.List.Elements.{All-contains, Contains-append_right}
-use Rattle.std.proofs.lemmas.Option.{get_or_from_slice_get, slice_get_within, slice_get-get_or, same_Some}
+use Rattle.std.proofs.lemmas.Option.{slice_get_within, slice_get-get_or, same_Some}
 use Rattle.qu_base.specs.declared.party.ClientId.{ClientId}
 use Rattle.qu_base.specs.declared.party.ObjectId.{ObjectId}
 use Rattle.qu_base.specs.declared.party.Party.{Party}
@@ -17,7 +17,6 @@ use Rattle.qu_history.specs.Sets.{entries_of, method_at}
 use Rattle.qu_objects.specs.declared.act.Method.{Method}
 use Rattle.qu_objects.specs.declared.op.Op.{Op}
 use Rattle.qu_objects.specs.declared.op.Op.TheVariants as op
-use Rattle.qu_objects.specs.Parts.{are_parts}
 use Rattle.qu_frames.specs.declared.frame.Body.TheVariants as body
 use Rattle.qu_frames.specs.declared.frame.Frame.TheVariants as frame
 use Rattle.qu_frames.specs.declared.frame.Letter.{Letter}
@@ -42,11 +41,10 @@ use Rattle.qu_trace.proofs.LetterLaws.{letters-push}
 use Rattle.qu_world.specs.State.{numbered, letter_of}
 use Rattle.qu_world.specs.Step.{world_step, at_client, ended_by}
 use Rattle.qu_world.specs.Run.{IsRun}
-use Rattle.qu_world.proofs.Each.{each_at}
 use Rattle.qu_world.proofs.Steps.{step_moved}
 use Rattle.qu_claims.specs.Carried.{Asks, Brings}
 use Rattle.qu_claims.specs.Times.{world_after}
-use Rattle.qu_runs.specs.Plain.{ArePlain, HasEventParts}
+use Rattle.qu_runs.specs.Plain.{ArePlain}
 use Rattle.qu_runs.proofs.Digests.Plain.{setup_after}
 use Rattle.qu_runs.proofs.Fits.Carrying.{brings_decoded}
 use Rattle.qu_runs.proofs.Fits.Fitting.{fit_step}
@@ -55,7 +53,8 @@ use Rattle.qu_rounds.proofs.Asking.{CarriesOnly, requests_carry, IsSameRequest, 
 use Rattle.qu_values.proofs.Requests.ClientFacts.{IsAskedBy}
 use Rattle.qu_claims.specs.Quick.{SendsAt, first_sets, asked_first}
 use Rattle.qu_points.proofs.Operations.Began.{IsBegunIn, begun_in}
-use Rattle.qu_quick.proofs.FirstRound.{act, first_set, first_sets-one, first_work, invoke_is, asked_parties, asked_first-number}
+use Rattle.qu_claims.specs.Parts.{Names}
+use Rattle.qu_quick.proofs.FirstRound.{act, first_work, invoke_is, asked_parties, asked_first-number}
 use Rattle.qu_quick.proofs.Hearing.{IsMoveAt, moved_at}
 use Rattle.qu_quick.proofs.MadeBefore.{own_client}
 
@@ -124,35 +123,33 @@ module _ (trace : Trace) (is_run : IsRun trace) (have : ArePlain trace) (operati
       moved_at trace is_run client begin first_entry is_first state is_state (Invoke client operation.op)
       (λ (it : ClientState). client_invoke it operation.op) steps
 
-  -- an act has one part
-  pub has_parts : (parts : List (ObjectId × Method)) → operation.op ≡ op.Act parts → IsTrue (are_parts parts)
-  has_parts parts is_act =
-      let all : HasEventParts first_entry.event =
-      subst (λ (it : Entry). HasEventParts it.event)
-      (get_or_from_slice_get trace.entries begin first_entry first_entry is_first)
-      (each_at (λ (entry : Entry). HasEventParts entry.event) trace.entries begin first_entry have.parts below) in
-      (subst HasEventParts (began.event_is ∙ ap (Invoke client) is_act) all).1.0
-
-  module _ (object : ObjectId) (method : Method) (is_act : operation.op ≡ op.Act ((object, method) ∷ []))
-      (base : Candidate)
-      (current : method_at trace.setup.bounds (entries_of object (first_sets state operation.op)) ≡ Some base) where
-    abbrev pub set : SetOf
-    set = first_set state object method
+  module _ (parts : List (ObjectId × Method)) (is_act : operation.op ≡ op.Act parts) (bases : ObjectId → Candidate)
+      (current : (object : ObjectId) → Names parts object
+      → method_at trace.setup.bounds (entries_of object (first_sets state operation.op)) ≡ Some (bases object)) where
+    abbrev pub sets : List SetOf
+    sets = first_sets state (op.Act parts)
 
     abbrev pub work : Work
-    work = first_work state object method
+    work = first_work state parts
 
-    pub sets_are : first_sets state operation.op ≡ set ∷ []
-    sets_are = ap (first_sets state) is_act ∙ first_sets-one state object method
+    pub sets_are : first_sets state operation.op ≡ sets
+    sets_are = ap (first_sets state) is_act
 
-    bounds_here : state.keys.bounds ≡ trace.setup.bounds
+    pub bounds_here : state.keys.bounds ≡ trace.setup.bounds
     bounds_here =
         ap (λ keys. keys.bounds)
         (clients_keyed trace begin (omega (arith, below)) client.0 state is_state).keys_are
 
-    pub of_method : method_at trace.setup.bounds (entries_of object (set ∷ [])) ≡ Some base
-    of_method =
-        ap (λ (sets : List SetOf). method_at trace.setup.bounds (entries_of object sets)) (sym sets_are) ∙ current
+    pub of_method : (object : ObjectId) → Names parts object
+        → method_at trace.setup.bounds (entries_of object sets) ≡ Some (bases object)
+    of_method object names =
+        ap (λ (them : List SetOf). method_at trace.setup.bounds (entries_of object them)) (sym sets_are)
+        ∙ current object names
+
+    pub own_method : (object : ObjectId) → Names parts object
+        → method_at state.keys.bounds (entries_of object sets) ≡ Some (bases object)
+    own_method object names =
+        ap (λ (bounds : ℕ). method_at bounds (entries_of object sets)) bounds_here ∙ of_method object names
 
     abbrev first_step : Stepped
     first_step = rounds.begins (record state { kept = unmarked state.kept }) work
@@ -160,22 +157,21 @@ module _ (trace : Trace) (is_run : IsRun trace) (have : ArePlain trace) (operati
     begun : client_invoke state operation.op ≡ first_step
     begun =
         ap (client_invoke state) is_act
-        ∙ invoke_is state object method base
-        (ap (λ (bounds : ℕ). method_at bounds (entries_of object (set ∷ []))) bounds_here ∙ of_method)
+        ∙ invoke_is state parts bases own_method
 
     -- ---- what is sent
 
     letters_are : first_entry.letters
-        ≡ requests state.keys state.me work (Preferred (first_object (act state object method)))
+        ≡ requests state.keys state.me work (Preferred (first_object (act state parts)))
     letters_are = first_move.letters ∙ ap (λ (it : Stepped). it.letters) begun
 
     pub asked_parties_are : map (λ (letter : Letter). letter.to) first_entry.letters
         ≡ asked_first trace.setup.bounds (first_object operation.op)
     asked_parties_are =
         ap (λ (letters : List Letter). map (λ (letter : Letter). letter.to) letters) letters_are
-        ∙ asked_parties state.keys state.me work (Preferred (first_object (act state object method))) 0
+        ∙ asked_parties state.keys state.me work (Preferred (first_object (act state parts))) 0
         (replicas state.keys.bounds)
-        ∙ ap (λ (bounds : ℕ). asked_first bounds (first_object (act state object method))) bounds_here
+        ∙ ap (λ (bounds : ℕ). asked_first bounds (first_object (act state parts))) bounds_here
         ∙ ap (λ (what : Op). asked_first trace.setup.bounds (first_object what)) (sym is_act)
 
     pub asks_a_quorum : length first_entry.letters ≡ quorum trace.setup.bounds
@@ -198,18 +194,18 @@ module _ (trace : Trace) (is_run : IsRun trace) (have : ArePlain trace) (operati
     -- ---- one of the letters, as it is read
 
     module _ (request : Letter) (sent : SendsAt trace begin request) (old : ReplicaState) (mac : List ℕ)
-        (brings : Brings old request.text (frame.Request client operation.number 1 (set ∷ [])
-        (body.Act ((object, method) ∷ [])) mac)) where
+        (brings : Brings old request.text (frame.Request client operation.number 1 sets
+        (body.Act parts) mac)) where
       among_letters : Contains first_entry.letters request
       among_letters =
           subst (λ (it : Entry). Contains it.letters request)
           (same_Some sent.entry first_entry (sym sent.is_entry ∙ is_first)) sent.sent
 
-      asks : Asks request client operation.number 1 (set ∷ []) (body.Act ((object, method) ∷ []))
+      asks : Asks request client operation.number 1 sets (body.Act parts)
       asks = record {
         mac = mac;
-        carries = brings_decoded old request.text (frame.Request client operation.number 1 (set ∷ [])
-            (body.Act ((object, method) ∷ [])) mac) brings;
+        carries = brings_decoded old request.text (frame.Request client operation.number 1 sets
+            (body.Act parts) mac) brings;
       }
 
       abbrev numbered_so : (number : ℕ) × (letter_of (world_after trace (begin + 1)) number ≡ Some request)
@@ -217,8 +213,8 @@ module _ (trace : Trace) (is_run : IsRun trace) (have : ArePlain trace) (operati
 
       -- it is a request that was sent when the operation began
       pub asked_then : (number : ℕ)
-          × IsAskedBy trace operation.invoked number request client operation.number 1 (set ∷ [])
-          (body.Act ((object, method) ∷ []))
+          × IsAskedBy trace operation.invoked number request client operation.number 1 sets
+          (body.Act parts)
       asked_then = (
         numbered_so.0,
         record {
@@ -232,15 +228,15 @@ module _ (trace : Trace) (is_run : IsRun trace) (have : ArePlain trace) (operati
       only : CarriesOnly state.keys (request_of state.me work) request
       only =
           All-contains (CarriesOnly state.keys (request_of state.me work)) _ request
-          (requests_carry state.keys state.me work (Preferred (first_object (act state object method)))
-          ((fit_step trace is_run have begin below).asks client.0 first_step.state after_first work refl))
+          (requests_carry state.keys state.me work (Preferred (first_object (act state parts)))
+          ((fit_step trace is_run have.typed begin below).asks client.0 first_step.state after_first work refl))
           (subst (λ (letters : List Letter). Contains letters request) letters_are among_letters)
 
       -- so that the operation has the number that its client gave it
       pub number_is : next_number state.last_request ≡ operation.number
       number_is =
-          let same : IsSameRequest client state.me operation.number work.number 1 work.round (set ∷ []) work.sets
-          (body.Act ((object, method) ∷ [])) work.body =
-          asks_only state.keys state.me work request only client operation.number 1 (set ∷ [])
-          (body.Act ((object, method) ∷ [])) asks in
+          let same : IsSameRequest client state.me operation.number work.number 1 work.round sets work.sets
+          (body.Act parts) work.body =
+          asks_only state.keys state.me work request only client operation.number 1 sets
+          (body.Act parts) asks in
           sym same.number_is

@@ -33,14 +33,13 @@ use Rattle.qu_chain.specs.Laws.{Laws}
 use Rattle.qu_runs.specs.Plain.{ArePlain}
 use Rattle.qu_runs.proofs.Small.{quorum_outnumbers}
 use Rattle.qu_values.proofs.Requests.ClientFacts.{ClientFacts}
-use Rattle.qu_values.proofs.Updating.OneAct.{ActsAreOne}
+use Rattle.qu_runs.proofs.Acts.OneAct.{ActsAreOne}
 use Rattle.qu_values.proofs.Updating.UpdateFacts.{UpdateFacts}
 use Rattle.qu_claims.specs.Quick.{SendsAt, first_sets, RoundTurn, IsQuickTurn, HearsNext, last_heard, IsQuick, EndsInOneRound, QuickIsOneRound}
 use Rattle.qu_points.proofs.Operations.Began.{IsBegunIn}
-use Rattle.qu_quick.proofs.FirstRound.{one_part}
 use Rattle.qu_quick.proofs.Hearing.{IsHeard, IsWaitingAt, EndsAfter, AreApart, hears_all}
-use Rattle.qu_quick.proofs.Invoked.{began, index_is, first_entry, is_first, has_parts, work, asked_parties_are, asks_a_quorum, none_ends_first, after_first, number_is}
-use Rattle.qu_quick.proofs.Turns.{its_version, its_version-is, brings, told_stamp, told_answer, turn_heard}
+use Rattle.qu_quick.proofs.Invoked.{began, index_is, first_entry, is_first, work, asked_parties_are, asks_a_quorum, none_ends_first, after_first, number_is}
+use Rattle.qu_quick.proofs.Turns.{its_versions, its_version-is, brings, told_stamps, told_answer, turn_heard}
 
 -- ---- the end that a trace shows
 
@@ -84,23 +83,13 @@ each_of P Q turned (item ∷ later) all =
 module _ (trace : Trace) (is_run : IsRun trace) (have : ArePlain trace) (clients : ClientFacts trace)
     (one_act : ActsAreOne trace) (laws : Laws (setting trace)) (joint : Joint (setting trace))
     (facts : UpdateFacts trace) where
-  module _ (operation : OpRecord) (bases : ObjectId → Candidate) (begin last : ℕ) (object : ObjectId)
-      (method : Method)
-      (quick : IsQuick trace operation ((object, method) ∷ []) bases begin last) where
-    abbrev parts : List (ObjectId × Method)
-    parts = (object, method) ∷ []
-
+  module _ (operation : OpRecord) (parts : List (ObjectId × Method)) (bases : ObjectId → Candidate) (begin last : ℕ)
+      (quick : IsQuick trace operation parts bases begin last) where
     abbrev client : ClientId
     client = operation.client
 
     abbrev state : ClientState
     state = quick.state
-
-    here : Names parts object
-    here = inl refl
-
-    abbrev base : Candidate
-    base = bases object
 
     abbrev IsTurn : RoundTurn → Type 0
     IsTurn turn = IsQuickTurn trace begin operation parts (first_sets state operation.op) bases turn
@@ -108,56 +97,56 @@ module _ (trace : Trace) (is_run : IsRun trace) (have : ArePlain trace) (clients
     -- ---- of the first turn
 
     module _ (turn : RoundTurn) (first : IsTurn turn) where
-      version : ObjState
-      version =
-          its_version trace is_run have clients one_act laws joint facts operation quick.of_trace begin quick.begins
-          state quick.is_state object method quick.is_act bases (quick.current object here) (quick.in_time object here)
+      versions : ObjectId → ObjState
+      versions =
+          its_versions trace is_run have clients one_act laws joint facts operation quick.of_trace begin quick.begins
+          state quick.is_state parts quick.is_act bases quick.current quick.in_time
           turn first
 
-      has : HasVersion trace object base version
-      unfolding version
+      has : (object : ObjectId) → Names parts object → HasVersion trace object (bases object) (versions object)
+      unfolding versions
       has =
           its_version-is trace is_run have clients one_act laws joint facts operation quick.of_trace begin quick.begins
-          state quick.is_state object method quick.is_act bases (quick.current object here) (quick.in_time object here)
+          state quick.is_state parts quick.is_act bases quick.current quick.in_time
           turn first
 
-      abbrev stamp : Stamp
-      stamp =
-          told_stamp trace is_run have clients one_act laws joint facts operation quick.of_trace begin quick.begins
-          state quick.is_state object method quick.is_act bases (quick.current object here) (quick.in_time object here)
-          version has
+      abbrev stamps : List (ObjectId × Stamp)
+      stamps =
+          told_stamps trace is_run have clients one_act laws joint facts operation quick.of_trace begin quick.begins
+          state quick.is_state parts quick.is_act bases quick.current quick.in_time
+          versions has
 
       abbrev answer : Answer
       answer =
           told_answer trace is_run have clients one_act laws joint facts operation quick.of_trace begin quick.begins
-          state quick.is_state object method quick.is_act bases (quick.current object here) (quick.in_time object here)
-          version has
+          state quick.is_state parts quick.is_act bases quick.current quick.in_time
+          versions has
 
       abbrev Heard : RoundTurn → Type 0
-      Heard other = IsHeard trace is_run have client operation.number parts object stamp answer other
+      Heard other = IsHeard trace is_run have client operation.number parts stamps answer other
 
       heard_of : (other : RoundTurn) → IsTurn other → Heard other
       heard_of other it =
           turn_heard trace is_run have clients one_act laws joint facts operation quick.of_trace begin quick.begins
-          state quick.is_state object method quick.is_act bases (quick.current object here) (quick.in_time object here)
-          version has other it
+          state quick.is_state parts quick.is_act bases quick.current quick.in_time
+          versions has other it
 
       abbrev first_work : Work
       first_work =
-          work trace is_run have operation quick.of_trace begin quick.begins state quick.is_state object method
-          quick.is_act base (quick.current object here)
+          work trace is_run have operation quick.of_trace begin quick.begins state quick.is_state parts
+          quick.is_act bases quick.current
 
-      waiting : IsWaitingAt trace is_run have client operation.number parts object stamp answer (begin + 1) first_work
+      waiting : IsWaitingAt trace is_run have client operation.number parts stamps answer (begin + 1) first_work
       waiting = record {
         state = _;
-        is_state = after_first trace is_run have operation quick.of_trace begin quick.begins state quick.is_state object
-            method quick.is_act base (quick.current object here);
+        is_state = after_first trace is_run have operation quick.of_trace begin quick.begins state quick.is_state parts
+            quick.is_act bases quick.current;
         under_way = refl;
-        of_number = number_is trace is_run have operation quick.of_trace begin quick.begins state quick.is_state object
-            method quick.is_act base (quick.current object here) first.request first.sent first.state first.mac
+        of_number = number_is trace is_run have operation quick.of_trace begin quick.begins state quick.is_state parts
+            quick.is_act bases quick.current first.request first.sent first.state first.mac
             (brings trace is_run have clients one_act laws joint facts operation quick.of_trace begin quick.begins
-            state quick.is_state object method quick.is_act bases (quick.current object here)
-            (quick.in_time object here) turn first);
+            state quick.is_state parts quick.is_act bases quick.current
+            quick.in_time turn first);
         of_round = refl;
         is_act = refl;
         asking = refl;
@@ -165,7 +154,7 @@ module _ (trace : Trace) (is_run : IsRun trace) (have : ArePlain trace) (clients
       }
 
       abbrev Apart : List RoundTurn → Type 0
-      Apart turns = AreApart trace is_run have client operation.number parts object stamp answer turns
+      Apart turns = AreApart trace is_run have client operation.number parts stamps answer turns
 
       apart_all : (turns : List RoundTurn)
           → AllPairs (λ (one other : RoundTurn). one.replica ≢ other.replica) turns → Apart turns
@@ -184,12 +173,12 @@ module _ (trace : Trace) (is_run : IsRun trace) (have : ArePlain trace) (clients
       none_replied (it ∷ later) = (refl, none_replied later)
 
       module _ (later : List RoundTurn) (are : quick.turns ≡ turn ∷ later) where
-        ends : EndsAfter trace is_run have client operation.number parts object stamp answer (begin + 1) last
+        ends : EndsAfter trace is_run have client operation.number parts stamps answer (begin + 1) last
         unfolding last_heard
         ends =
-            subst (EndsAfter trace is_run have client operation.number parts object stamp answer (begin + 1))
+            subst (EndsAfter trace is_run have client operation.number parts stamps answer (begin + 1))
             (sym (quick.last_is ∙ ap (last_heard begin) are))
-            (hears_all trace is_run have client operation.number parts object stamp answer turn later (begin + 1)
+            (hears_all trace is_run have client operation.number parts stamps answer turn later (begin + 1)
             first_work waiting
             (each_of IsTurn Heard heard_of (turn ∷ later) (subst (All IsTurn) are quick.quick))
             (subst (HearsNext trace client (begin + 1)) are quick.hears) (none_replied (turn ∷ later))
@@ -228,8 +217,8 @@ module _ (trace : Trace) (is_run : IsRun trace) (have : ArePlain trace) (clients
             quick.is_state)
             (sym is ∙ drop_at begin trace.entries zero ∙ ap (slice_get trace.entries) (omega arith)
             ∙ is_first trace is_run have operation quick.of_trace begin quick.begins state quick.is_state))
-            ∙ none_ends_first trace is_run have operation quick.of_trace begin quick.begins state quick.is_state object
-            method quick.is_act base (quick.current object here)
+            ∙ none_ends_first trace is_run have operation quick.of_trace begin quick.begins state quick.is_state parts
+            quick.is_act bases quick.current
         none_before (suc k) below it is =
             (ends.quiet (begin + suc k) (omega arith) (omega (arith, below)) it
             (sym (drop_at begin trace.entries (suc k)) ∙ is)).none_ends operation.number
@@ -264,21 +253,17 @@ module _ (trace : Trace) (is_run : IsRun trace) (have : ArePlain trace) (clients
                 (ends.quiet at (omega (arith, after)) before sends.entry sends.is_entry).others sends.sent
             by (inr (inr beyond)) = absurd (omega (arith, most, beyond))
 
-        of_base : (other : ObjectId) → Names parts other → HasVersion trace other (bases other) version
-        of_base other (inl same) = subst (λ (it : ObjectId). HasVersion trace it (bases it) version) same has
-        of_base other (inr never) = absurd never
-
         ends_so : EndsInOneRound trace operation parts bases begin last
         ends_so = record {
           entry = first_entry trace is_run have operation quick.of_trace begin quick.begins state quick.is_state;
           is_entry = is_first trace is_run have operation quick.of_trace begin quick.begins state quick.is_state;
           asked = asked_parties_are trace is_run have operation quick.of_trace begin quick.begins state quick.is_state
-              object method quick.is_act base (quick.current object here);
+              parts quick.is_act bases quick.current;
           letters = asks_a_quorum trace is_run have operation quick.of_trace begin quick.begins state quick.is_state
-              object method quick.is_act base (quick.current object here);
+              parts quick.is_act bases quick.current;
           no_more = no_more;
-          versions = λ other. version;
-          of_bases = of_base;
+          versions = versions;
+          of_bases = has;
           done = done;
         }
 
@@ -297,11 +282,4 @@ module _ (trace : Trace) (is_run : IsRun trace) (have : ArePlain trace) (clients
 
   -- an act that is quick ends in one round
   pub quick_is_one_round : QuickIsOneRound trace
-  quick_is_one_round operation parts bases begin last quick =
-      let one : (part : ObjectId × Method) × (parts ≡ part ∷ []) =
-      one_part parts
-      (has_parts trace is_run have operation quick.of_trace begin quick.begins quick.state quick.is_state parts
-      quick.is_act) in
-      subst (λ (it : List (ObjectId × Method)). EndsInOneRound trace operation it bases begin last) (sym one.1)
-      (in_one_round operation bases begin last (one.0).0 (one.0).1
-      (subst (λ (it : List (ObjectId × Method)). IsQuick trace operation it bases begin last) one.1 quick))
+  quick_is_one_round = in_one_round

@@ -319,8 +319,9 @@ reply_sent trace is_run have at below entry is_entry letter holding replica clie
     let made : IsDecidedUpon answer.state answer.text replica client number round verdict =
     decided_upon answer.state answer.text replica client number round verdict shown
     (brought (answer.state).keys (party.Replica (answer.state).me) answer.text) refl
-    (λ taken decodes. (fit_step trace is_run have at below).answers answer.me answer.state answer.is_state taken
-    (handed_fits trace is_run have at entry below (party.Replica answer.me) answer.text handed_here taken decodes))
+    (λ taken decodes. (fit_step trace is_run have.typed at below).answers answer.me answer.state answer.is_state taken
+    (handed_fits trace is_run have.typed at entry below (party.Replica answer.me) answer.text handed_here taken
+    decodes))
     place letter answer.sent_by is in
     let in_place : IsInPlace (answer.me).0 answer.state =
     (true_world trace is_run have at (omega arith)).replicas (answer.me).0 answer.state answer.is_state in

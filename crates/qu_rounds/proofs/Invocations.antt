@@ -363,7 +363,7 @@ world_shown trace is have (suc count) within =
     (happens trace is count default (omega arith))
     (have.plain_at count default (omega arith))
     (subst (IsFitStep (world_after trace count)) (world_after-next trace count default (omega arith))
-    (fit_step trace is have count (omega arith))) in
+    (fit_step trace is have.typed count (omega arith))) in
     subst (λ (many : ℕ). IsShown trace many (world_after trace many)) (add-one count)
     (subst (IsShown trace (count + 1)) (sym (world_after-next trace count default (omega arith))) after)
 

@@ -197,7 +197,7 @@ round_next trace is_run have count below before =
     subst IsRoundWorld (sym (world_after-next trace count default below))
     (world_step-round trace count (world_after trace count) (counts_world trace is_run have count (omega arith))
     before event (have.plain_at count default below)
-    (subst DoFit (world_after-next trace count default below) (fit_step trace is_run have count below).asks))
+    (subst DoFit (world_after-next trace count default below) (fit_step trace is_run have.typed count below).asks))
 
 round_world : (trace : Trace) → IsRun trace → ArePlain trace → (count : ℕ) → count ≤ length trace.entries
     → IsRoundWorld (world_after trace count)

@@ -144,8 +144,8 @@ replies_within trace is have index entry is_entry =
     (λ event. none)
     (λ event text me state from hands found.
     brought_replies bound state (brought state.keys (party.Replica state.me) text)
-    (λ taken brings. (fit_step trace is have index below).answers me state found taken
-    (from_fits trace is have index (omega arith) (party.Replica me) text from taken
+    (λ taken brings. (fit_step trace is have.typed index below).answers me state found taken
+    (from_fits trace is have.typed index (omega arith) (party.Replica me) text from taken
     (brings_decoded state text taken brings)))
     (replica_within trace index me.0 state found))
     (λ client op state found. invoke_sends state (All (RepliesWithin bound)) none (asked_replies bound state) op)

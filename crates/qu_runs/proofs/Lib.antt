@@ -3,3 +3,4 @@ pub mod Fits
 pub mod Worlds
 pub mod Events
 pub mod Digests
+pub mod Acts

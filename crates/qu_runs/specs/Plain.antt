@@ -69,10 +69,14 @@ IsPlain world (Deliver letter) = Unit {0}
 IsPlain world (Tick client) = Unit {0}
 IsPlain world (Inject to text) = IsIgnored world to text ⊎ IsFrom world to text
 
-pub record ArePlain (trace : Trace) : Type 0 where
+-- what types and memory keep of the events of a run, whatever is forged
+pub record AreTyped (trace : Trace) : Type 0 where
   pub parts : HaveParts trace.entries
   -- so many entries at most are in memory
   pub few : length trace.entries < 2 ^ 63
+
+pub record ArePlain (trace : Trace) : Type 0 where
+  pub typed : AreTyped trace
   pub unforged : IsUnforged trace
   pub plain_at : (at : ℕ) (default : Entry) → at < length trace.entries → IsPlain (world_after trace at)
       (get_or trace.entries at default).event

@@ -12,7 +12,7 @@ use Rattle.qu_runs.proofs.Digests.Plain.{plain_from}
 use Rattle.qu_laws.proofs.Laws.{laws}
 use Rattle.qu_laws.proofs.JointLaws.{joint_laws}
 use Rattle.qu_values.proofs.Requests.ClientFacts.{ClientFacts}
-use Rattle.qu_values.proofs.Updating.OneAct.{ActsAreOne, acts_are_one}
+use Rattle.qu_runs.proofs.Acts.OneAct.{ActsAreOne, acts_are_one}
 use Rattle.qu_values.proofs.Updating.UpdateFacts.{UpdateFacts, NoneIsRepeated}
 use Rattle.qu_values.proofs.Updating.UpdatesOfRuns.{update_facts, numbers_rise, none_is_repeated}
 use Rattle.qu_safety.proofs.KnownRuns.{client_facts}

@@ -295,7 +295,7 @@ true_next trace count is_run parts below before =
     subst (IsTrueWorld (IsTrueOf trace (count + 1))) (sym next)
     (world_step-true (IsTrueOf trace (count + 1)) (world_after trace count) event
     (parts.plain_at count default below) (shown_of_faulty trace count (count + 1))
-    (subst (IsFitStep (world_after trace count)) next (fit_step trace is_run parts count below))
+    (subst (IsFitStep (world_after trace count)) next (fit_step trace is_run parts.typed count below))
     (world-more (IsTrueOf trace count) (IsTrueOf trace (count + 1)) (world_after trace count)
     (λ sealed was. true-later trace count (count + 1) sealed (omega arith) was) before)
     (λ place state history is_state found good. record {

@@ -35,7 +35,7 @@ use Rattle.qu_claims.specs.RunSetting.{setting}
 use Rattle.qu_claims.specs.Updates.{Update, IsOf, IsEverAccepted}
 use Rattle.qu_claims.specs.Parts.{Names}
 use Rattle.qu_claims.specs.Values.{HasVersion}
-use Rattle.qu_values.proofs.Updating.OneAct.{ActsAreOne}
+use Rattle.qu_runs.proofs.Acts.OneAct.{ActsAreOne}
 use Rattle.qu_values.proofs.Updating.PerformedUpdates.{performed}
 use Rattle.qu_values.proofs.Updating.Updates.{acts, one_of, same_accepted, one_companion}
 use Rattle.qu_values.proofs.Updating.UpdateFacts.{HasValue, MadeFor, ValueStep, befores, afters, IsStep, IsPerformed, UpdateFacts, NoneIsRepeated}

@@ -1,4 +1,3 @@
 -- The requests of correct clients that were handled.
-pub mod FitActs
 pub mod SentRequests
 pub mod ClientFacts

@@ -4,4 +4,3 @@ pub mod UpdateFacts
 pub mod UpdatesOfRuns
 pub mod RisingNumbers
 pub mod PerformedUpdates
-pub mod OneAct

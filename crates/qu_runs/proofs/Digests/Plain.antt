@@ -214,8 +214,7 @@ module _ (trace : Trace) (count : ℕ) (within : count ≤ length trace.entries)
 pub plain_from : (trace : Trace) → HaveParts trace.entries → length trace.entries < 2 ^ 63 → IsUnforged trace
     → ArePlain trace
 plain_from trace parts few unforged = record {
-  parts = parts;
-  few = few;
+  typed = record { parts = parts; few = few };
   unforged = unforged;
   plain_at = λ at default below.
       plain_event trace at (omega arith) (get_or trace.entries at default).event

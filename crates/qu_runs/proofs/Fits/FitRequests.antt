@@ -2,13 +2,13 @@
 use Rattle.std.proofs.Common.{◌≡◌, ℕ, zero, suc, ◌+◌, ◌-◌, ◌<◌, ◌≤◌, ◌^◌, Bool, true, cond, List, [], ◌∷◌, length, Option, None, Some, refl, sym, ap, subst, ◌∙◌, arith, inl, inr}
 use Rattle.std.specs.Prelude.{◌==◌, ◌&&◌, ◌%◌, not, nat_lt, nat_le, map, IsTrue}
 use Rattle.std.specs.List.{AllByRecursion}
-use Rattle.std.proofs.lemmas.Bool.{false≢true, cases_Bool, cond_both, and_parts, or_cases, or_left, or_right, eq-eqb, eqb-true, leb-true, le-leb, ltb-true}
+use Rattle.std.proofs.lemmas.Bool.{false≢true, cases_Bool, cond_both, and_parts, or_cases, or_left, or_right, eq-eqb, eqb-true, leb-true, le-leb, ltb-true, lt-ltb}
 use Rattle.std.proofs.lemmas.List.{length-map}
 use Rattle.std.proofs.lemmas.Option.{none-some, same_Some}
 use Rattle.qu_base.specs.declared.limits.TheConstants.{LAST_CLIENT, OBJECT_IDS, REPLICA_IDS}
 use Rattle.qu_base.specs.declared.party.ClientId.{ClientId}
 use Rattle.qu_base.specs.declared.party.ObjectId.{ObjectId}
-use Rattle.qu_base.specs.Format.{FitsFrom}
+use Rattle.qu_base.specs.Format.{Format, FitsFrom}
 use Rattle.qu_base.specs.Bounds.{replicas}
 use Rattle.qu_history.specs.declared.limits.TheConstants.{OBJECTS_LIMIT}
 use Rattle.qu_history.specs.declared.sealed.Sealed.{Sealed}
@@ -20,8 +20,11 @@ use Rattle.qu_objects.specs.declared.act.Method.{Method}
 use Rattle.qu_objects.specs.declared.query.Ask.{Ask}
 use Rattle.qu_objects.specs.declared.op.Op.{Op}
 use Rattle.qu_objects.specs.declared.op.Op.TheVariants as op
-use Rattle.qu_objects.specs.Formats.{is_one_of, act_form, query_form}
-use Rattle.qu_objects.specs.Digesting.{MethodFits, AskFits}
+use Rattle.qu_objects.specs.declared.limits.TheConstants.{MOST_PARTS}
+use Rattle.qu_objects.specs.Parts.{are_parts}
+use Rattle.qu_objects.specs.Formats.{is_after, is_one_of, method_form, ask_form, part_form, parts_form, act_form, query_form}
+use Rattle.qu_objects.proofs.FewParts.{few_parts}
+use Rattle.qu_objects.specs.Digesting.{PartsFit, AsksFit}
 use Rattle.qu_frames.specs.declared.limits.TheConstants.{LAST_ROUND}
 use Rattle.qu_frames.specs.Body.{body_of}
 use Rattle.qu_frames.specs.declared.frame.Body.{Body}
@@ -287,21 +290,48 @@ sets_fit bounds round kept named are fit few =
 
 -- ---- what is asked for
 
-act_fits : (named : List ObjectId) (object : ObjectId) (method : Method) → is_one_of named object ≡ true
-    → object.0 < OBJECT_IDS → MethodFits method → (act_form (is_one_of named)).Fits ((object, method) ∷ [])
-unfolding act_form
-act_fits named object method known below fit = (
-  (omega arith, omega arith),
-  (refl, (((((omega arith, omega arith), known), refl), method_fits method fit), tt)),
-)
+-- parts behind an object fit, where their objects rise from this number on and are known
+parts_fit_from : {X : Type 0} (form : Format X) (known : ObjectId → Bool) (least : ℕ) (before : Option ObjectId)
+    → ((object : ObjectId) → least ≤ object.0 → is_after before object ≡ true) → (parts : List (ObjectId × X))
+    → are_objects_from least (map (λ part. part.0) parts) ≡ true
+    → ((object : ObjectId) → is_one_of (map (λ part. part.0) parts) object ≡ true → known object ≡ true)
+    → AllByRecursion (λ part. form.Fits part.1) parts
+    → FitsFrom (part_form form known) (λ part. Some part.0) before parts
+parts_fit_from form known least before behind [] rising own fit = tt
+parts_fit_from form known least before behind (part ∷ later) rising own fit =
+    let others : List ObjectId = map (λ part. part.0) later in
+    let first : IsFirstNamed least part.0 others = first_named least part.0 others rising in
+    let below : (part.0).0 < OBJECT_IDS = first.below in (
+      (
+        (((omega arith, omega arith), own part.0 (itself part.0 others)), behind part.0 first.order),
+        fit.0,
+      ),
+      parts_fit_from form known ((part.0).0 + 1) (Some part.0) (λ object order. lt-ltb _ _ (omega (arith, order)))
+          later first.rest (λ object is. own object (or_right _ _ is)) fit.1,
+    )
 
-query_fits : (named : List ObjectId) (object : ObjectId) (ask : Ask) → is_one_of named object ≡ true
-    → object.0 < OBJECT_IDS → AskFits ask → (query_form (is_one_of named)).Fits ((object, ask) ∷ [])
-unfolding query_form
-query_fits named object ask known below fit = (
-  (omega arith, omega arith),
-  (refl, (((((omega arith, omega arith), known), refl), ask_fits ask fit), tt)),
-)
+-- and as many as an operation has
+parts_fit : {X : Type 0} (form : Format X) (named : List ObjectId) (parts : List (ObjectId × X))
+    → IsTrue (are_parts parts)
+    → ((object : ObjectId) → is_one_of (map (λ part. part.0) parts) object ≡ true → is_one_of named object ≡ true)
+    → AllByRecursion (λ part. form.Fits part.1) parts → (parts_form form (is_one_of named)).Fits parts
+parts_fit form named parts in_order own fit =
+    let objects : List ObjectId = map (λ part. part.0) parts in
+    let rise : AreFewNamed objects = few_named objects (are_objects_of_parts parts in_order) in
+    let size : length objects ≡ length parts = length-map parts (λ part. part.0) in
+    let most : length parts ≤ MOST_PARTS = few_parts parts in_order in (
+      (omega (arith, rise.some, size), most),
+      (refl, parts_fit_from form (is_one_of named) 0 None (λ object order. refl) parts rise.rising own fit),
+    )
+
+methods_fit : (parts : List (ObjectId × Method)) → PartsFit parts
+    → AllByRecursion (λ part. method_form.Fits part.1) parts
+methods_fit [] fit = tt
+methods_fit (part ∷ later) fit = (method_fits part.1 fit.0, methods_fit later fit.1)
+
+each_asked : (parts : List (ObjectId × Ask)) → AsksFit parts → AllByRecursion (λ part. ask_form.Fits part.1) parts
+each_asked [] fit = tt
+each_asked (part ∷ later) fit = (ask_fits part.1 fit.0, each_asked later fit.1)
 
 -- ---- what a round asks
 
@@ -316,27 +346,19 @@ record FitsNamed (named : List ObjectId) (asked : Body) : Type 0 where
 
 operation_fits : (what : Op) (named : List ObjectId) → AreNamedFor what named → HasOpParts what
     → FitsNamed named (body_of what)
-unfolding body_form
-operation_fits (op.Act []) named are parts = absurd (false≢true parts.0)
-operation_fits (op.Act ((object, method) ∷ [])) named are parts =
-    let below : object.0 < OBJECT_IDS = ltb-true object.0 OBJECT_IDS parts.0 in
-    record {
-      fits = (
-        ((omega arith, omega arith), refl),
-        act_fits named object method (are.own object (itself object [])) below (parts.1).0,
-      );
-    }
-operation_fits (op.Act (first ∷ second ∷ later)) named are parts = absurd (false≢true parts.0)
-operation_fits (op.Query []) named are parts = absurd (false≢true parts.0)
-operation_fits (op.Query ((object, ask) ∷ [])) named are parts =
-    let below : object.0 < OBJECT_IDS = ltb-true object.0 OBJECT_IDS parts.0 in
-    record {
-      fits = (
-        ((omega arith, omega arith), refl),
-        query_fits named object ask (are.own object (itself object [])) below (parts.1).0,
-      );
-    }
-operation_fits (op.Query (first ∷ second ∷ later)) named are parts = absurd (false≢true parts.0)
+unfolding body_form act_form query_form
+operation_fits (op.Act parts) named are has = record {
+  fits = (
+    ((omega arith, omega arith), refl),
+    parts_fit method_form named parts has.0 are.own (methods_fit parts has.1),
+  );
+}
+operation_fits (op.Query parts) named are has = record {
+  fits = (
+    ((omega arith, omega arith), refl),
+    parts_fit ask_form named parts has.0 are.own (each_asked parts has.1),
+  );
+}
 
 mend_fits : (named : List ObjectId) (target : ObjectId) → is_one_of named target ≡ true → target.0 < OBJECT_IDS
     → FitsNamed named (body.Mend target)

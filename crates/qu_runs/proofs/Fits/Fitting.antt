@@ -42,7 +42,7 @@ use Rattle.qu_world.specs.Step.{world_step, unchanged, at_replica, at_client, re
 use Rattle.qu_world.specs.Run.{IsSetup, IsRun}
 use Rattle.qu_claims.specs.Carried.{Carries, offered, handed}
 use Rattle.qu_claims.specs.Times.{world_after}
-use Rattle.qu_runs.specs.Plain.{IsPlain, ArePlain, HasEventParts, IsFrom}
+use Rattle.qu_runs.specs.Plain.{HasEventParts, IsFrom, AreTyped}
 use Rattle.qu_runs.proofs.Fits.Carrying.{carried_is, AsksFit, AnswersFit, IsFitStep}
 use Rattle.qu_world.proofs.Each.{each_append, each_numbered, set_cases, with_cases, each_at}
 use Rattle.qu_runs.proofs.Fits.FitClients.{tick_fit, tick_letters, FitClient, fit_more, step_fit, invoke_fit, asks_fit, step_letters, invoke_letters, opening_clients-fit}
@@ -52,7 +52,7 @@ use Rattle.qu_trace.proofs.LetterLaws.{letters-push}
 use Rattle.qu_frames.specs.Signing.{brought}
 use Rattle.qu_seal.specs.Keys.{Ring}
 use Rattle.qu_frames.proofs.Signed.{brought_is_decoded}
-use Rattle.qu_runs.proofs.Events.Handing.{injected_cases, hand, handed_offers}
+use Rattle.qu_runs.proofs.Events.Handing.{hand, handed_offers}
 use Rattle.qu_base.specs.Format.{AreBytes}
 
 -- ---- letters
@@ -144,31 +144,26 @@ module _ (bounds most : ℕ) (few : most + 1 < 2 ^ 64) (size : replicas bounds �
       received_fit (Deliver number) letter.to letter.text
       (carried_fits letter (each_numbered LetterFits (letters_of world.entries) number letter fit.letters is))
 
-  step_world : (event : Event) → IsPlain world event → FitWorld bounds (most + 1) (world_step world event)
-  step_world (Invoke client what) plain =
+  step_world : (event : Event) → HasEventParts event → FitWorld bounds (most + 1) (world_step world event)
+  step_world (Invoke client what) parts =
       step_cases (FitWorld bounds (most + 1)) world (Invoke client what) (unchanged_fit (Invoke client what))
       (λ correct.
       at_client_fit (Invoke client what) client (λ (state : ClientState). client_invoke state what)
       (numbered world.clients client.0) refl
-      (λ state before. invoke_fit bounds most client.0 state what size plain.1 before)
+      (λ state before. invoke_fit bounds most client.0 state what size parts.1 before)
       (λ state asks. invoke_letters state what asks))
-  step_world (Deliver number) plain =
+  step_world (Deliver number) parts =
       step_cases (FitWorld bounds (most + 1)) world (Deliver number) (unchanged_fit (Deliver number))
       (λ correct. delivered_fit number (letter_of world number) refl)
-  step_world (Tick client) plain =
+  step_world (Tick client) parts =
       step_cases (FitWorld bounds (most + 1)) world (Tick client) (unchanged_fit (Tick client)) (λ correct.
       at_client_fit (Tick client) client client_tick (numbered world.clients client.0) refl
       (λ state before. fit_more bounds most client.0 (client_tick state).state
       (tick_fit bounds most client.0 state size before))
       (λ state asks. tick_letters state asks))
-  step_world (Inject to text) plain =
-      injected_cases world to text (λ (event : Event) (new : WorldState). FitWorld bounds (most + 1) new)
-      (unchanged_fit (Inject to text))
-      (λ number letter is hands. received_fit (Inject letter.to letter.text) letter.to letter.text
-      (carried_fits letter (each_numbered LetterFits (letters_of world.entries) number letter fit.letters
-      is)))
-      (λ made hands. received_fit (Inject to text) to text (λ sent is. (decoded_is_spelled text sent made.bytes is).0))
-      plain
+  step_world (Inject to text) bytes =
+      step_cases (FitWorld bounds (most + 1)) world (Inject to text) (unchanged_fit (Inject to text))
+      (λ correct. received_fit (Inject to text) to text (λ sent is. (decoded_is_spelled text sent bytes is).0))
 
 -- ---- the beginning
 
@@ -203,35 +198,41 @@ opening_fits setup is =
 
 -- ---- runs
 
-below_word : (trace : Trace) → IsRun trace → ArePlain trace → (count : ℕ) → count ≤ length trace.entries
+below_word : (trace : Trace) → IsRun trace → AreTyped trace → (count : ℕ) → count ≤ length trace.entries
     → count < 2 ^ 64
-below_word trace is_run plain count within =
-    let few : length trace.entries < 2 ^ 63 = plain.few in
+below_word trace is_run typed count within =
+    let few : length trace.entries < 2 ^ 63 = typed.few in
     omega arith
 
-fit_world : (trace : Trace) → IsRun trace → ArePlain trace → (count : ℕ) → count ≤ length trace.entries
+fit_world : (trace : Trace) → IsRun trace → AreTyped trace → (count : ℕ) → count ≤ length trace.entries
     → FitWorld trace.setup.bounds count (world_after trace count)
-fit_world trace is_run plain zero within =
+fit_world trace is_run typed zero within =
     subst (FitWorld trace.setup.bounds 0) (sym (world_after-none trace)) (opening_fits trace.setup is_run.setup)
-fit_world trace is_run plain (suc count) within =
+fit_world trace is_run typed (suc count) within =
     let default : Entry = some_entry trace.entries (omega arith) in
     let before : FitWorld trace.setup.bounds count (world_after trace count) =
-    fit_world trace is_run plain count (omega arith) in
-    let few : count + 1 < 2 ^ 64 = below_word trace is_run plain (count + 1) (omega arith) in
+    fit_world trace is_run typed count (omega arith) in
+    let few : count + 1 < 2 ^ 64 = below_word trace is_run typed (count + 1) (omega arith) in
     let after : FitWorld trace.setup.bounds (count + 1)
     (world_step (world_after trace count) (get_or trace.entries count default).event) =
     step_world trace.setup.bounds count few (replicas_are_few trace.setup.bounds (is_run.setup).few_faults)
     (world_after trace count) before (get_or trace.entries count default).event
-    (plain.plain_at count default (omega arith)) in
+    (each_at (λ (entry : Entry). HasEventParts entry.event) trace.entries count default typed.parts (omega arith)) in
     subst (λ (many : ℕ). FitWorld trace.setup.bounds many (world_after trace many)) (add-one count)
     (subst (FitWorld trace.setup.bounds (count + 1)) (sym (world_after-next trace count default (omega arith))) after)
 
+-- what a replica of a run holds, fits
+pub replica_fits : (trace : Trace) → IsRun trace → AreTyped trace → (count : ℕ) → count ≤ length trace.entries
+    → (place : ℕ) (state : ReplicaState) → slice_get (world_after trace count).replicas place ≡ Some state
+    → StateFits state
+replica_fits trace is_run typed count within = (fit_world trace is_run typed count within).replicas
+
 -- what a letter of a run carries, fits
-pub carried_in_run : (trace : Trace) → IsRun trace → ArePlain trace → (count : ℕ) → count ≤ length trace.entries
+pub carried_in_run : (trace : Trace) → IsRun trace → AreTyped trace → (count : ℕ) → count ≤ length trace.entries
     → (number : ℕ) (letter : Letter) → letter_of (world_after trace count) number ≡ Some letter
     → (carried : Frame) → Carries letter carried → frame_form.Fits carried
-carried_in_run trace is_run plain count within number letter is carried carries =
-    let fit : FitWorld trace.setup.bounds count (world_after trace count) = fit_world trace is_run plain count within in
+carried_in_run trace is_run typed count within number letter is carried carries =
+    let fit : FitWorld trace.setup.bounds count (world_after trace count) = fit_world trace is_run typed count within in
     carried_fits letter (each_numbered LetterFits (letters_of (world_after trace count).entries) number letter
     fit.letters is) carried carries
 
@@ -253,17 +254,17 @@ answers_fit state received fits within = λ request handles verdict accepted giv
     mid_fits fields)).0
 
 -- what an event makes the parties send fits
-pub fit_step : (trace : Trace) → IsRun trace → ArePlain trace → (count : ℕ) → count < length trace.entries
+pub fit_step : (trace : Trace) → IsRun trace → AreTyped trace → (count : ℕ) → count < length trace.entries
     → IsFitStep (world_after trace count) (world_after trace (count + 1))
-fit_step trace is_run plain count below =
+fit_step trace is_run typed count below =
     let before : FitWorld trace.setup.bounds count (world_after trace count) =
-    fit_world trace is_run plain count (omega arith) in
+    fit_world trace is_run typed count (omega arith) in
     let after : FitWorld trace.setup.bounds (count + 1) (world_after trace (count + 1)) =
-    fit_world trace is_run plain (count + 1) (omega arith) in
+    fit_world trace is_run typed (count + 1) (omega arith) in
     record {
       asks = λ number state found.
           asks_fit trace.setup.bounds (count + 1) number state
-          (below_word trace is_run plain (count + 1) (omega arith)) (after.clients number state found);
+          (below_word trace is_run typed (count + 1) (omega arith)) (after.clients number state found);
       answers = λ me state found sent fits. answers_fit state sent (before.replicas me.0 state found) fits;
       carried = λ number letter sent is carries.
           carried_fits letter (each_numbered LetterFits (letters_of (world_after trace count).entries) number
@@ -273,46 +274,46 @@ fit_step trace is_run plain count below =
 -- ---- what is handed over
 
 -- what a party may take fits
-pub from_fits : (trace : Trace) → IsRun trace → ArePlain trace → (count : ℕ) → count ≤ length trace.entries
+pub from_fits : (trace : Trace) → IsRun trace → AreTyped trace → (count : ℕ) → count ≤ length trace.entries
     → (to : Party) (text : List ℕ) → IsFrom (world_after trace count) to text → (sent : Frame)
     → decoded text ≡ Ok sent → frame_form.Fits sent
-from_fits trace is_run plain count within to text (inl it) sent is =
-    carried_in_run trace is_run plain count within it.number it.letter it.is_letter sent (ap decoded it.text_is ∙ is)
-from_fits trace is_run plain count within to text (inr made) sent is = (decoded_is_spelled text sent made.bytes is).0
+from_fits trace is_run typed count within to text (inl it) sent is =
+    carried_in_run trace is_run typed count within it.number it.letter it.is_letter sent (ap decoded it.text_is ∙ is)
+from_fits trace is_run typed count within to text (inr made) sent is = (decoded_is_spelled text sent made.bytes is).0
 
-found_fits : (trace : Trace) → IsRun trace → ArePlain trace → (count : ℕ) → count ≤ length trace.entries
+found_fits : (trace : Trace) → IsRun trace → AreTyped trace → (count : ℕ) → count ≤ length trace.entries
     → (number : ℕ) (to : Party) (text : List ℕ) (found : Option Letter)
     → letter_of (world_after trace count) number ≡ found → option_map hand found ≡ Some (to, text)
     → (sent : Frame) → decoded text ≡ Ok sent → frame_form.Fits sent
-found_fits trace is_run plain count within number to text None is hands sent decodes = absurd
+found_fits trace is_run typed count within number to text None is hands sent decodes = absurd
     (none-some (to, text) hands)
-found_fits trace is_run plain count within number to text (Some letter) is hands sent decodes =
+found_fits trace is_run typed count within number to text (Some letter) is hands sent decodes =
     let same : (letter.to, letter.text) ≡ (to, text) = same_Some (letter.to, letter.text) (to, text) hands in
-    carried_in_run trace is_run plain count within number letter is sent
+    carried_in_run trace is_run typed count within number letter is sent
     (ap (λ (it : Party × List ℕ). decoded it.1) same ∙ decodes)
 
 -- what an event of the run offers fits
-pub offered_fits : (trace : Trace) → IsRun trace → ArePlain trace → (count : ℕ) → count ≤ length trace.entries
+pub offered_fits : (trace : Trace) → IsRun trace → AreTyped trace → (count : ℕ) → count ≤ length trace.entries
     → (event : Event) → HasEventParts event → (to : Party) (text : List ℕ)
     → offered (world_after trace count) event ≡ Some (to, text)
     → (sent : Frame) → decoded text ≡ Ok sent → frame_form.Fits sent
-offered_fits trace is_run plain count within (Invoke client op) parts to text offers sent is =
+offered_fits trace is_run typed count within (Invoke client op) parts to text offers sent is =
     absurd (none-some (to, text) offers)
-offered_fits trace is_run plain count within (Deliver number) parts to text offers sent is =
-    found_fits trace is_run plain count within number to text (letter_of (world_after trace count) number) refl offers
+offered_fits trace is_run typed count within (Deliver number) parts to text offers sent is =
+    found_fits trace is_run typed count within number to text (letter_of (world_after trace count) number) refl offers
     sent is
-offered_fits trace is_run plain count within (Tick client) parts to text offers sent is =
+offered_fits trace is_run typed count within (Tick client) parts to text offers sent is =
     absurd (none-some (to, text) offers)
-offered_fits trace is_run plain count within (Inject who other) parts to text offers sent is =
+offered_fits trace is_run typed count within (Inject who other) parts to text offers sent is =
     let same : (who, other) ≡ (to, text) = same_Some (who, other) (to, text) offers in
     (decoded_is_spelled text sent (subst AreBytes (ap (λ (it : Party × List ℕ). it.1) same) parts) is).0
 
 -- and so does what it hands over
-pub handed_fits : (trace : Trace) → IsRun trace → ArePlain trace → (count : ℕ) (default : Entry)
+pub handed_fits : (trace : Trace) → IsRun trace → AreTyped trace → (count : ℕ) (default : Entry)
     → count < length trace.entries → (to : Party) (text : List ℕ)
     → handed (world_after trace count) (get_or trace.entries count default).event ≡ Some (to, text)
     → (sent : Frame) → decoded text ≡ Ok sent → frame_form.Fits sent
-handed_fits trace is_run plain count default below to text hands =
-    offered_fits trace is_run plain count (omega arith) (get_or trace.entries count default).event
-    (each_at (λ (entry : Entry). HasEventParts entry.event) trace.entries count default plain.parts below) to text
+handed_fits trace is_run typed count default below to text hands =
+    offered_fits trace is_run typed count (omega arith) (get_or trace.entries count default).event
+    (each_at (λ (entry : Entry). HasEventParts entry.event) trace.entries count default typed.parts below) to text
     (handed_offers (world_after trace count) (get_or trace.entries count default).event to text hands)

@@ -17,7 +17,7 @@ use Rattle.qu_chain.specs.Joint.{Joint}
 use Rattle.qu_claims.specs.RunSetting.{setting}
 use Rattle.qu_values.proofs.Updating.UpdateFacts.{UpdateFacts, NoneIsRepeated}
 use Rattle.qu_values.proofs.Requests.ClientFacts.{ClientFacts}
-use Rattle.qu_values.proofs.Updating.OneAct.{ActsAreOne}
+use Rattle.qu_runs.proofs.Acts.OneAct.{ActsAreOne}
 use Rattle.qu_claims.specs.Order.{is_earlier, are_in_order, DecidesAt}
 use Rattle.qu_safety.proofs.Points.OwnedPoints.{IsOperationPoint, IsFaultyPoint, HasOwner, IsOwnedOrder}
 use Rattle.qu_points.specs.Points.{as_operation}

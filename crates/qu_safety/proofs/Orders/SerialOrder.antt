@@ -50,7 +50,7 @@ use Rattle.qu_safety.proofs.Completed.CompletedQueries.{CompletedQuery, HasTopVa
 use Rattle.qu_points.proofs.Orders.Folding.{fold_along}
 use Rattle.qu_values.proofs.Requests.ClientFacts.{ClientFacts}
 use Rattle.qu_values.proofs.MachineValues.{IsValues, step_of, first_values, value_of_top, done, Steps, befores_are}
-use Rattle.qu_values.proofs.Updating.OneAct.{ActsAreOne}
+use Rattle.qu_runs.proofs.Acts.OneAct.{ActsAreOne}
 use Rattle.qu_safety.proofs.Points.EventRequests.{one_point}
 use Rattle.qu_safety.proofs.Points.PointEvents.{point_bounds, points_apart}
 use Rattle.qu_safety.proofs.Orders.SerialFields.{is_point_at, point_at_place, points_known, points_faulty, stand_at_most_once, stands_of}

@@ -41,7 +41,7 @@ use Rattle.qu_claims.specs.Updates.{Update, IsOf, IsEverAccepted}
 use Rattle.qu_claims.specs.Parts.{Names}
 use Rattle.qu_points.proofs.Orders.Folding.{IsQuestion}
 use Rattle.qu_values.proofs.MachineValues.{IsValues, object_known, known_object, stay, change}
-use Rattle.qu_values.proofs.Updating.OneAct.{ActsAreOne, one_made_for}
+use Rattle.qu_runs.proofs.Acts.OneAct.{ActsAreOne, one_made_for}
 use Rattle.qu_values.proofs.Updating.Updates.{last_is, acts, one_of, opening_no_act}
 use Rattle.qu_values.proofs.Updating.UpdateFacts.{MadeFor, UpdateFacts, NoneIsRepeated}
 use Rattle.qu_values.proofs.Requests.ClientFacts.{ClientFacts}

@@ -33,7 +33,7 @@ use Rattle.qu_claims.specs.Updates.{Update, IsOf}
 use Rattle.qu_safety.proofs.Points.ActPoints.{IsTurnOf, turn_at}
 use Rattle.qu_values.proofs.Updating.Updates.{last_is, acts, one_of}
 use Rattle.qu_values.proofs.Updating.UpdateFacts.{UpdateFacts, NoneIsRepeated}
-use Rattle.qu_values.proofs.Updating.OneAct.{ActsAreOne, one_made_for}
+use Rattle.qu_runs.proofs.Acts.OneAct.{ActsAreOne, one_made_for}
 use Rattle.qu_claims.specs.Grounds.{Accepts, IsDelivered, AddsTo}
 use Rattle.qu_claims.specs.Order.{AnswersFirst, query_effect}
 use Rattle.qu_safety.proofs.Points.OwnedPoints.{IsOperationPoint, IsFaultyPoint, HasOwner}

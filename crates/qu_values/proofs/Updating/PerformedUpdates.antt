@@ -19,7 +19,7 @@ use Rattle.qu_claims.specs.RunSetting.{setting}
 use Rattle.qu_claims.specs.Updates.{Update, IsOf, IsEverAccepted}
 use Rattle.qu_claims.specs.Values.{RestsOn, HasVersion}
 use Rattle.qu_claims.specs.Parts.{Names, values_on}
-use Rattle.qu_values.proofs.Updating.OneAct.{ActsAreOne}
+use Rattle.qu_runs.proofs.Acts.OneAct.{ActsAreOne}
 use Rattle.qu_values.proofs.Updating.UpdateFacts.{ValueStep, befores, afters, IsStep, IsPerformed, UpdateFacts}
 use Rattle.qu_values.proofs.Updating.Updates.{acts, one_of, same_accepted, one_companion, one_act_of}
 use Rattle.qu_values.proofs.Versions.Values.{same_values, values_same, row_upon, IsUpdated, value_after, own_row, updated}

@@ -21,7 +21,7 @@ use Rattle.qu_trace.specs.declared.trace.Trace.{Trace}
 use Rattle.qu_claims.specs.RunSetting.{setting}
 use Rattle.qu_claims.specs.Updates.{Update, IsOf, IsEverAccepted, NumbersRise}
 use Rattle.qu_claims.specs.Values.{RestsOn, HasVersion}
-use Rattle.qu_values.proofs.Updating.OneAct.{ActsAreOne}
+use Rattle.qu_runs.proofs.Acts.OneAct.{ActsAreOne}
 use Rattle.qu_values.proofs.Updating.UpdateFacts.{IsUnder, NoneIsRepeated}
 use Rattle.qu_claims.specs.Truth.{IsAncestorOrSelf, IsWritten}
 use Rattle.qu_values.proofs.Updating.Updates.{acts, opening_no_act, one_of, same_accepted}

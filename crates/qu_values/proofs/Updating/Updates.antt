@@ -13,7 +13,7 @@ use Rattle.qu_chain.proofs.Parents.{First, first_new, one_candidate}
 use Rattle.qu_trace.specs.declared.trace.Trace.{Trace}
 use Rattle.qu_claims.specs.RunSetting.{setting}
 use Rattle.qu_claims.specs.Updates.{Update, IsOf, IsEverAccepted}
-use Rattle.qu_values.proofs.Updating.OneAct.{ActsAreOne, one_made_for}
+use Rattle.qu_runs.proofs.Acts.OneAct.{ActsAreOne, one_made_for}
 
 -- the last time is that after all events
 pub last_is : (trace : Trace) → (setting trace).last ≡ length trace.entries

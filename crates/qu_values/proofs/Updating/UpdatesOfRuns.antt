@@ -1,9 +1,8 @@
--- The updates of a run are as the values along the order ask: no groups, and none is done upon itself.
-use Rattle.std.proofs.Common.{◌≡◌, ◌⊎◌, true, false, not, length, Some, sym, ap, subst, ◌∙◌, arith, inl, inr, ℕ, ◌≤◌, ◌<◌}
+-- The updates of a run are as the values along the order ask: a group is of one update, and none is done upon itself.
+use Rattle.std.proofs.Common.{List, ◌≡◌, ◌⊎◌, true, false, not, length, Some, sym, ap, subst, ◌∙◌, arith, inl, inr, ℕ, ◌≤◌, ◌<◌}
 use Rattle.std.specs.Prelude.{is_some, Option}
-use Rattle.std.proofs.lemmas.Option.{none-some}
-use Rattle.qu_chain.proofs.Ancestry.{acceptor}
-use Rattle.qu_laws.proofs.Origins.{no_member_yet}
+use Rattle.std.proofs.lemmas.Bool.{cases_eq}
+use Rattle.qu_objects.specs.declared.act.Method.{Method}
 use Rattle.qu_base.specs.declared.party.Digest.{Digest}
 use Rattle.qu_base.specs.declared.party.ObjectId.{ObjectId}
 use Rattle.qu_stamp.specs.declared.candidate.Candidate.{Candidate}
@@ -12,7 +11,7 @@ use Rattle.qu_stamp.specs.Stamp.{is_below}
 use Rattle.qu_stamp.specs.Candidate.{opening}
 use Rattle.qu_claims.specs.Setting.{Apart}
 use Rattle.qu_chain.specs.Laws.{Laws}
-use Rattle.qu_chain.specs.Joint.{Joint}
+use Rattle.qu_chain.specs.Joint.{Joint, HasMember}
 use Rattle.qu_chain.proofs.Counting.{Found, found_at}
 use Rattle.qu_objects.specs.declared.kind.Value.{Value}
 use Rattle.qu_objects.specs.declared.state.ObjState.{ObjState}
@@ -24,7 +23,8 @@ use Rattle.qu_claims.specs.Handled.{IsHandled, IsMadeFor}
 use Rattle.qu_runs.specs.Plain.{ArePlain}
 use Rattle.qu_claims.specs.RunSetting.{setting}
 use Rattle.qu_claims.specs.Chained.{last_world}
-use Rattle.qu_claims.specs.Grounds.{Accepts, Performs}
+use Rattle.qu_claims.specs.Grounds.{Accepts, AddsTo, Performs}
+use Rattle.qu_claims.specs.Parts.{Names}
 use Rattle.qu_rows.specs.Rows.{asked_of}
 use Rattle.qu_claims.specs.Origins.{Origin}
 use Rattle.qu_rows.specs.State.{ReplicaState}
@@ -33,16 +33,15 @@ use Rattle.qu_grounds.proofs.Grounds.{IsOfAct, act_added}
 use Rattle.qu_claims.specs.Updates.{Update, IsOf, IsEverAccepted, NumbersRise}
 use Rattle.qu_claims.specs.Values.{HasVersion}
 use Rattle.qu_accepts.proofs.Handled.{handled, made_for}
-use Rattle.qu_values.proofs.Updating.OneAct.{ActsAreOne}
-use Rattle.qu_values.proofs.Requests.FitActs.{fit}
+use Rattle.qu_runs.proofs.Acts.OneAct.{ActsAreOne, one_made_for}
 use Rattle.qu_laws.proofs.Origins.{accepted_from}
 use Rattle.qu_values.proofs.Updating.RisingNumbers.{numbers_rise as rising, none_repeated, rows_are_true}
 use Rattle.qu_values.proofs.Versions.StoredValues.{version_held}
 use Rattle.qu_values.proofs.Versions.SteppedVersions.{plain_of_method}
-use Rattle.qu_values.proofs.Updating.Updates.{opening_no_act, same_accepted}
+use Rattle.qu_values.proofs.Updating.Updates.{acts, opening_no_act, same_accepted}
 use Rattle.qu_values.proofs.Updating.UpdateFacts.{HasValue, MadeFor, UpdateFacts, NoneIsRepeated}
 use Rattle.qu_values.proofs.Versions.Values.{one_version}
-use Rattle.qu_grounds.proofs.Parts.{same_named}
+use Rattle.qu_grounds.proofs.Together.{added_together, member_added, IsMemberAt, member_at}
 use Rattle.qu_chain.proofs.Parents.{parent}
 use Rattle.qu_frames.specs.declared.frame.Body.{Body}
 
@@ -127,13 +126,85 @@ module _ (trace : Trace) (is_run : IsRun trace) (have : ArePlain trace) where
       is_act
 
   module _ (one_act : ActsAreOne trace) (laws : Laws (setting trace)) (joint : Joint (setting trace)) where
-    -- an update is on one object
-    one_object : (update : Update) (object other : ObjectId) (first second : Candidate)
-        → IsOf trace update object first → IsOf trace update other second → object ≡ other
-    one_object update object other first second one two =
-        same_named update.parts object other
-        ((fit trace is_run have update.client update.number update.parts (one.made).handled).parts).0
-        one.names two.names
+    -- what was made for an update, together with its other parts
+    module _ (update : Update) (object : ObjectId) (candidate : Candidate) (is_of : IsOf trace update object candidate)
+        (accepted : IsEverAccepted trace object candidate) where
+      abbrev came_so : Origin trace (length trace.entries) object candidate
+      came_so = act_origin object candidate accepted (acts trace update object candidate is_of)
+
+      abbrev upon : Accepts ((came_so.delivered).handles).mid came_so.new ((came_so.delivered).handles).carried
+      upon = (came_so.delivered).accepts
+
+      abbrev act_asked : IsOfAct ((came_so.delivered).handles).mid came_so.new
+          (asked_of upon.client upon.number upon.sets upon.asks) upon.asks upon.candidates object
+      act_asked =
+          of_act (length trace.entries) (omega arith) object candidate came_so
+          (acts trace update object candidate is_of)
+
+      -- it was made for the parts of the update
+      asks_are : upon.asks ≡ body.Act update.parts
+      asks_are =
+          act_asked.is_act ∙ ap (λ (parts : List (ObjectId × Method)). body.Act parts)
+          (one_made_for trace one_act candidate upon.client update.client upon.number update.number act_asked.parts
+          update.parts
+          (made_so (length trace.entries) (omega arith) object candidate came_so
+          (acts trace update object candidate is_of)) is_of.made).2
+
+      -- so its members are on these
+      member_named : (other : ObjectId) (stamp : Stamp) → (setting trace).member candidate other ≡ Some stamp
+          → Names update.parts other
+      unfolding setting
+      member_named other stamp is_member =
+          subst (λ (asks : Body). AddsTo asks upon.group other) asks_are
+          (member_added ((came_so.delivered).handles).mid came_so.new
+          (asked_of upon.client upon.number upon.sets upon.asks) upon.group upon.candidates upon.asks upon.reasons
+          object (came_so.delivered).adds other stamp
+          (ap (λ (it : Candidate). (setting trace).member it other) came_so.is_candidate ∙ is_member)).0
+
+      -- and on each of these is one
+      named_member : (other : ObjectId) → Names update.parts other → Apart object other
+          → HasMember (setting trace) object candidate other
+      unfolding setting
+      named_member other names apart = (
+        apart,
+        (
+          (upon.candidates other).stamp,
+          ap (λ (it : Candidate). (setting trace).member it other) (sym came_so.is_candidate)
+              ∙ added_together ((came_so.delivered).handles).mid came_so.new
+              (asked_of upon.client upon.number upon.sets upon.asks) upon.group upon.candidates upon.asks upon.reasons
+              object other (came_so.delivered).adds
+              (subst (λ (asks : Body). AddsTo asks upon.group other) (sym asks_are) names) apart,
+        ),
+      )
+
+    -- a group is of one update
+    shared : (update : Update) (object other : ObjectId) (candidate companion : Candidate)
+        → IsOf trace update object candidate → IsEverAccepted trace object candidate → Apart object other
+        → (setting trace).member candidate other ≡ Some companion.stamp
+        → IsEverAccepted trace other companion → IsOf trace update other companion
+    unfolding setting
+    shared update object other candidate companion is_of accepted apart is_member also =
+        let it : IsMemberAt candidate other companion.stamp =
+        member_at candidate other companion.stamp is_member in
+        record {
+          made = record {
+            handled = (is_of.made).handled;
+            of_client = ap (λ (stamp : Stamp). stamp.client) (sym it.is) ∙ (is_of.made).of_client;
+            of_act = ap (λ (stamp : Stamp). stamp.act) (sym it.is) ∙ (is_of.made).of_act;
+          };
+          names = member_named update object candidate is_of accepted other companion.stamp is_member;
+        }
+
+    -- what an update is made for on two objects has a group with both
+    spread : (update : Update) (object other : ObjectId) (candidate companion : Candidate)
+        → IsOf trace update object candidate → IsEverAccepted trace object candidate
+        → IsOf trace update other companion → IsEverAccepted trace other companion
+        → (object ≡ other) ⊎ HasMember (setting trace) object candidate other
+    spread update object other candidate companion one accepted two besides =
+        elim (cases_eq object.0 other.0) [
+          | inl same ↦ inl (ap (λ (number : ℕ). record { 0 = number }) same)
+          | inr apart ↦ inr (named_member update object candidate one accepted other two.names apart)
+        ]
 
     -- a copy has the value of its base
     copied : (object : ObjectId) (candidate base : Candidate) (value : Value)
@@ -168,18 +239,6 @@ module _ (trace : Trace) (is_run : IsRun trace) (have : ArePlain trace) where
         found.place state.item state.is_at object candidate plain state.passed in
         (held.0, held.2)
 
-    -- no candidate has a group
-    no_group : (update : Update) (object other : ObjectId) (candidate companion : Candidate)
-        → IsOf trace update object candidate → IsEverAccepted trace object candidate → Apart object other
-        → (setting trace).member candidate other ≡ Some companion.stamp
-        → IsEverAccepted trace other companion → IsOf trace update other companion
-    unfolding setting
-    no_group update object other candidate companion is_of accepted apart is_member also =
-        let who = acceptor (setting trace) (setting trace).last object candidate accepted in
-        absurd (none-some companion.stamp
-        (sym (no_member_yet trace is_run have (setting trace).last who.replica object candidate who.accepted other)
-        ∙ is_member))
-
     pub update_facts : UpdateFacts trace
     update_facts = record {
       made = λ object candidate accepted is_act.
@@ -187,9 +246,8 @@ module _ (trace : Trace) (is_run : IsRun trace) (have : ArePlain trace) where
           is_act;
       plain = plain_acts;
       plain_base = λ object base entries is accepted. plain_of_method trace trace.setup.bounds entries base is;
-      shared = no_group;
-      spread = λ update object other candidate companion one accepted two besides.
-          inl (one_object update object other candidate companion one two);
+      shared = shared;
+      spread = spread;
       one_version = one_version trace laws joint one_act;
       written = rows_are_true trace laws joint one_act plain_acts;
       copied = λ object candidate base value accepted plain not_act prior plain_base base_accepted has.

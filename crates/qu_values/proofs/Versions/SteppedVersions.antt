@@ -17,7 +17,7 @@ use Rattle.qu_versions.specs.Versions.{version_at}
 use Rattle.qu_trace.specs.declared.trace.Entry.{Entry}
 use Rattle.qu_trace.specs.declared.trace.Trace.{Trace}
 use Rattle.qu_world.specs.Run.{IsRun}
-use Rattle.qu_rows.specs.Rows.{asked_of, Asked}
+use Rattle.qu_rows.specs.Rows.{asked_of, Asked, objects_of}
 use Rattle.qu_chain.specs.Laws.{Laws}
 use Rattle.qu_chain.specs.Joint.{Joint}
 use Rattle.qu_claims.specs.Groups.{IsOneAct}
@@ -236,8 +236,8 @@ module _ (trace : Trace) (laws : Laws (setting trace)) (joint : Joint (setting t
           → HasVersion trace object (one.candidates object) (performs.versions object)
       act_has object names =
           let candidate : Candidate = one.candidates object in
-          let grounds : IsGround mid (asked_of one.client one.number one.sets (body.Act parts)) object candidate
-          (performs.bases object) = performs.grounds object names in
+          let grounds : IsGround mid (asked_of one.client one.number one.sets (body.Act parts)) (objects_of parts)
+          object candidate (performs.bases object) = performs.grounds object names in
           HasVersion.of_update object candidate
           (record { client = one.client; number = one.number; parts = parts }) performs.bases
           (performs.performed).befores (λ other. (performs.versions other).value) (performs.versions object)
@@ -311,7 +311,7 @@ module _ (trace : Trace) (laws : Laws (setting trace)) (joint : Joint (setting t
   -- so is that of a copy which the replica makes
   copied_has : (asked : Asked) (target : ObjectId) (candidate : Candidate) (version : ObjState)
       → asked.act ≡ None → (setting trace).plain candidate ≡ true
-      → IsMade mid.keys.bounds asked target candidate → IsEverAccepted trace target candidate
+      → IsMade mid.keys.bounds asked (target ∷ []) target candidate → IsEverAccepted trace target candidate
       → version_at target candidate.prior mid.versions ≡ Some version → HasVersion trace target candidate version
   unfolding setting
   copied_has asked target candidate version no_act plain made ever found =
@@ -336,13 +336,14 @@ module _ (trace : Trace) (laws : Laws (setting trace)) (joint : Joint (setting t
   mended_stores asked target candidate version no_act (IsRemedy.barrier barrier made) stored plain ever =
       absurd (false≢true (ap not (sym barrier) ∙ plain))
   mended_stores asked target candidate version no_act
-      (IsRemedy.copy latest its kind made barrier is_latest full is) stored plain ever =
+      (IsRemedy.copy latest its kind made single barrier is_latest full is) stored plain ever =
       copy_stores target candidate its ever (copied_has asked target candidate its no_act plain made ever is) stored
       (version_at target candidate.stamp mid.versions) refl
 
   -- the version of a candidate without barrier that the request adds is that of its stamp
   fresh_of_stamp : (object : ObjectId) → AddsTo one.asks one.group object
-      → (one.candidates object).stamp.barrier ≡ false → (version : ObjState) → HasVersion trace object (one.candidates object) version
+      → (one.candidates object).stamp.barrier ≡ false → (version : ObjState)
+      → HasVersion trace object (one.candidates object) version
       → IsVersionOf trace (count + 1) object (one.candidates object).stamp version
   unfolding setting
   fresh_of_stamp object adds plain version has =
@@ -456,7 +457,7 @@ module _ (trace : Trace) (laws : Laws (setting trace)) (joint : Joint (setting t
   mend_adds target adds stored (IsRemedy.inline_barrier barrier found) = tt
   mend_adds target adds stored (IsRemedy.inline_method its plain found found_so) = tt
   mend_adds target adds stored (IsRemedy.barrier barrier made) = tt
-  mend_adds target adds stored (IsRemedy.copy latest its plain made barrier is_latest full found) = (
+  mend_adds target adds stored (IsRemedy.copy latest its plain made single barrier is_latest full found) = (
     fresh_of_stamp target adds plain its
         (copied_has (asked_of one.client one.number one.sets (body.Mend target)) target (one.candidates target) its
         refl (ap not plain) made (now_accepted target adds) found),

@@ -27,7 +27,7 @@ use Rattle.qu_claims.specs.RunSetting.{setting}
 use Rattle.qu_claims.specs.Updates.{Update, IsOf, IsEverAccepted}
 use Rattle.qu_claims.specs.Values.{RestsOn, HasVersion}
 use Rattle.qu_claims.specs.Parts.{Names, values_on}
-use Rattle.qu_values.proofs.Updating.OneAct.{ActsAreOne}
+use Rattle.qu_runs.proofs.Acts.OneAct.{ActsAreOne}
 use Rattle.qu_values.proofs.Updating.Updates.{one_of, same_accepted, one_companion, acts, opening_no_act}
 
 -- ---- parts of equal wholes

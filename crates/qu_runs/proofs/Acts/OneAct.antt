@@ -17,7 +17,7 @@ use Rattle.qu_world.specs.Run.{IsRun}
 use Rattle.qu_claims.specs.Handled.{Request, IsHandled, IsMadeFor}
 use Rattle.qu_claims.specs.Digested.{Text, texts_of, digested, NoCollision}
 use Rattle.qu_runs.specs.Plain.{ArePlain}
-use Rattle.qu_values.proofs.Requests.FitActs.{IsFit, fit}
+use Rattle.qu_runs.proofs.Acts.FitActs.{IsFit, fit}
 use Rattle.qu_runs.proofs.Digests.DigestedTexts.{request_digested}
 
 -- ---- its text was digested

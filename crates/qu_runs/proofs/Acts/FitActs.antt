@@ -1,5 +1,5 @@
 -- The numbers of an act that a replica handled fit their bytes, since it decoded them.
-use Rattle.std.proofs.Common.{◌≡◌, ℕ, ◌<◌, ◌≤◌, ◌-◌, ◌^◌, Bool, List, [], ◌∷◌, length, Some, refl, ap, subst, ◌∙◌, arith}
+use Rattle.std.proofs.Common.{◌≡◌, ℕ, ◌<◌, ◌≤◌, ◌-◌, ◌^◌, Bool, List, [], ◌∷◌, length, Option, None, Some, refl, ap, subst, ◌∙◌, arith}
 use Rattle.std.proofs.lemmas.List.{take_all}
 use Rattle.std.proofs.lemmas.Option.{none-some}
 use Rattle.qu_base.specs.declared.limits.TheConstants.{LAST_CLIENT}
@@ -9,7 +9,8 @@ use Rattle.qu_history.specs.declared.sets.SetOf.{SetOf}
 use Rattle.qu_objects.specs.declared.act.Method.{Method}
 use Rattle.qu_objects.specs.declared.op.Op.TheVariants as op
 use Rattle.qu_objects.specs.Digesting.{PartsFit}
-use Rattle.qu_objects.specs.Formats.{method_form, parts_form, act_form}
+use Rattle.qu_base.specs.Format.{FitsFrom}
+use Rattle.qu_objects.specs.Formats.{method_form, part_form, act_form}
 use Rattle.qu_frames.specs.declared.frame.Body.TheVariants as body
 use Rattle.qu_frames.specs.declared.frame.Frame.{Frame}
 use Rattle.qu_frames.specs.declared.frame.Frame.TheVariants as frame
@@ -33,20 +34,20 @@ use Rattle.qu_claims.specs.Times.{world_after}
 use Rattle.qu_runs.proofs.Fits.FitParts.{fits_parts}
 use Rattle.qu_runs.proofs.Fits.Fitting.{carried_in_run}
 use Rattle.qu_runs.proofs.Events.Recording.{entries_after}
-use Rattle.qu_values.proofs.Requests.SentRequests.{IsSent, carried_to, carried_so, sent_by}
+use Rattle.qu_runs.proofs.Acts.CarriedRequests.{IsSent, carried_to, carried_so, sent_by}
 
 -- ---- what fits a format
 
-part_numbers : (known : ObjectId → Bool) (parts : List (ObjectId × Method))
-    → (parts_form method_form known).Fits parts → PartsFit parts
-part_numbers known [] fits = tt
-part_numbers known (part ∷ []) fits = (method_numbers part.1 fits.1.1.0.1, tt)
-part_numbers known (first ∷ second ∷ later) fits = absurd (omega (arith, fits.0.1))
+part_numbers : (known : ObjectId → Bool) (before : Option ObjectId) (parts : List (ObjectId × Method))
+    → FitsFrom (part_form method_form known) (λ part. Some part.0) before parts → PartsFit parts
+part_numbers known before [] fits = tt
+part_numbers known before (part ∷ later) fits =
+    (method_numbers part.1 fits.0.1, part_numbers known (Some part.0) later fits.1)
 
 act_numbers : (objects : List ObjectId) (parts : List (ObjectId × Method))
     → (body_form objects).Fits (body.Act parts) → PartsFit parts
 unfolding body_form act_form
-act_numbers objects parts fits = part_numbers _ parts fits.1
+act_numbers objects parts fits = part_numbers _ None parts fits.1.1.1
 
 -- ---- what a replica handled
 
@@ -68,7 +69,7 @@ module _ (trace : Trace) (is_run : IsRun trace) (have : ArePlain trace) where
         round = it.round;
         sets = it.sets;
         mac = (it.is_request).mac;
-        fits = carried_in_run trace is_run have last (omega arith) it.number it.letter
+        fits = carried_in_run trace is_run have.typed last (omega arith) it.number it.letter
             (ap (λ (entries : List Entry). numbered (letters_of entries) it.number) all ∙ it.is_letter)
             (frame.Request request.client request.number it.round it.sets request.body (it.is_request).mac)
             (it.is_request).carries;
@@ -106,7 +107,8 @@ fit trace is_run have client number parts it =
     let request : Request = record { client = client; number = number; sets = it.sets; body = body.Act parts } in
     let event : HasEventParts (it.entry).event =
     subst (λ (entry : Entry). HasEventParts entry.event) among.2
-    (each_at (λ (entry : Entry). HasEventParts entry.event) trace.entries among.0 it.entry have.parts among.1) in
+    (each_at (λ (entry : Entry). HasEventParts entry.event) trace.entries among.0 it.entry (have.typed).parts among.1)
+    in
     let came : FitsFrame request = handled_fits trace is_run have (it.entry).event event request it.handled in
     let sent : Frame = frame.Request client number came.round came.sets (body.Act parts) came.mac in
     let within : RequestFits client number came.round came.sets (body.Act parts) =
