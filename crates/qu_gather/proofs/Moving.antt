@@ -1,6 +1,7 @@
 -- Whether another actor stands behind a lock.
 use Rattle.std.proofs.Common.{◌≡◌, ℕ, ◌+◌, ◌<◌, ◌≤◌, Bool, true, false, cond, eqb, List, [], ◌∷◌, ◌++◌, map, length, get_or, drop, Option, None, Some, Result, Err, refl, sym, ap, subst, ◌∙◌, arith, inl, inr}
 use Rattle.std.specs.Prelude.{slice_get}
+use Rattle.std.specs.Option.{option_or}
 use Rattle.std.proofs.lemmas.Bool.{cases_Bool, eqb-true}
 use Rattle.std.proofs.lemmas.List.{at_drop_more, at_drop_all, get_or-map, get_or_default, length-map}
 use Rattle.qu_base.specs.declared.party.ClientId.{ClientId}
@@ -21,7 +22,7 @@ use Rattle.qu_gather.specs.declared.torn.LiveFail.TheVariants as fail
 use Rattle.qu_gather.specs.declared.torn.Torn.TheVariants as torn
 use Rattle.qu_gather.specs.Correct.{correct_replicas, correct_clients}
 use Rattle.qu_gather.specs.Gathered.{replica_name, client_name}
-use Rattle.qu_gather.specs.Torn.{or_moved, first_moved, replica_locks, client_locks, replicas_behind, clients_behind, moved_actor, TellsMoved, IsOfLocks, IsPairOf, TakesUnsent, IsUntold, TellsSteps}
+use Rattle.qu_gather.specs.Torn.{first_moved, replica_locks, client_locks, replicas_behind, clients_behind, moved_actor, TellsMoved, IsOfLocks, IsPairOf, TakesUnsent, IsUntold, TellsSteps}
 
 -- ---- one lock after another
 
@@ -160,7 +161,7 @@ clients_are (name ∷ names) (one ∷ held) same none =
     ]
 
 moved_append : (locks held locks' held' : List Party) → length locks ≡ length held
-    → first_moved (locks ++ locks') (held ++ held') ≡ or_moved (first_moved locks held) (first_moved locks' held')
+    → first_moved (locks ++ locks') (held ++ held') ≡ option_or (first_moved locks held) (first_moved locks' held')
 unfolding first_moved
 moved_append [] [] locks' held' same = refl
 moved_append [] (here ∷ held) locks' held' same = absurd (omega (arith, same))
@@ -177,7 +178,7 @@ pub all_moved : (setup : Setup) (held : List (ReplicaState × List KeptStep))
     → length held ≡ length (correct_replicas setup (replicas setup.bounds))
     → first ≡ first_moved (replica_locks (correct_replicas setup (replicas setup.bounds))) (replicas_behind held)
     → second ≡ first_moved (client_locks (correct_clients setup setup.clients)) (clients_behind others)
-    → moved_actor setup held others ≡ or_moved first second
+    → moved_actor setup held others ≡ option_or first second
 all_moved setup held others first second same first_is second_is =
     let locks = correct_replicas setup (replicas setup.bounds) in
     let locks_are = length-map locks (λ (me : ReplicaId). party.Replica me) in
@@ -185,9 +186,9 @@ all_moved setup held others first second same first_is second_is =
     moved_append (replica_locks locks) (replicas_behind held) (client_locks (correct_clients setup setup.clients))
     (clients_behind others) (omega (arith, same, locks_are, behind_are))
     ∙ ap (λ (it : Option (Party × Party)).
-    or_moved it (first_moved (client_locks (correct_clients setup setup.clients)) (clients_behind others)))
+    option_or it (first_moved (client_locks (correct_clients setup setup.clients)) (clients_behind others)))
     (sym first_is)
-    ∙ ap (or_moved first) (sym second_is)
+    ∙ ap (option_or first) (sym second_is)
 
 -- what is told behind the test of the locks tells of no lock
 pub none_tells : (X : Type 0) (moved : Option (Party × Party)) (merged : List (Party × KeptStep))
@@ -245,6 +246,6 @@ pub none_found : (locks held : List Party) (at : ℕ) (all : Option (Party × Pa
     → first_moved (drop at locks) (drop at held) ≡ all → None ≡ all
 none_found locks held at all end so_far = sym (moved_end locks held at end) ∙ so_far
 
-pub or_none : (first later : Option (Party × Party)) → or_moved first later ≡ None → (first ≡ None) × (later ≡ None)
+pub or_none : (first later : Option (Party × Party)) → option_or first later ≡ None → (first ≡ None) × (later ≡ None)
 or_none None later is = (refl, is)
 or_none (Some moved) later is = absurd (none-some moved (sym is))

@@ -28,11 +28,6 @@ first_moved [] held = None
 first_moved (lock ∷ locks) [] = None
 first_moved (lock ∷ locks) (here ∷ held) = if is_same here lock then first_moved locks held else Some (lock, here)
 
--- the first of two answers, where it is one
-abbrev pub or_moved : Option (Party × Party) → Option (Party × Party) → Option (Party × Party)
-or_moved None later = later
-or_moved (Some moved) later = Some moved
-
 abbrev pub replica_locks : List ReplicaId → List Party
 replica_locks names = map (λ (me : ReplicaId). party.Replica me) names
 

@@ -7,7 +7,7 @@ ghost use Rattle.qu_replay.specs.Told.{AreTold};
 ghost use Rattle.qu_gather.specs.Correct.{correct_replicas, correct_clients};
 ghost use Rattle.qu_gather.specs.Live.{IsLive, AreCallsOf};
 ghost use Rattle.qu_gather.specs.Gathered.{all_steps, HaveEnded, AreTheirOwn};
-ghost use Rattle.qu_gather.specs.Torn.{filed_at, sender_of, or_moved, moved_actor, TellsMoved, IsOfLocks, IsPairOf, IsUntold, TellsSteps};
+ghost use Rattle.qu_gather.specs.Torn.{filed_at, sender_of, moved_actor, TellsMoved, IsOfLocks, IsPairOf, IsUntold, TellsSteps};
 
 use crate::correct::{correct_clients, correct_replicas};
 use crate::held::{moved_client, moved_replica, put_clients, put_replicas};
@@ -67,22 +67,10 @@ fn are_their_own<N: RunName>(
 {
     let replicas = correct_replicas(alloc, setup)?;
     let clients = correct_clients(alloc, setup)?;
-    match or_moved(
-        moved_replica(replicas.as_slice(), held),
-        moved_client(clients.as_slice(), others),
-    ) {
+    let moved = moved_replica(replicas.as_slice(), held);
+    match moved.or(moved_client(clients.as_slice(), others)) {
         Some((lock, held)) => Err(LiveFail::Torn(Torn::Moved { lock, held })),
         None => Ok(()),
-    }
-}
-
-/// The first of two answers, where it is one.
-fn or_moved(first: Option<(Party, Party)>, later: Option<(Party, Party)>) -> Option<(Party, Party)>
-    ensures { result ≡ or_moved first later }
-{
-    match first {
-        Some(moved) => Some(moved),
-        None => later,
     }
 }
 
