@@ -22,7 +22,7 @@ use Rattle.qu_replay.specs.declared.kept_step.KeptStep.{KeptStep}
 use Rattle.qu_replay.specs.Replays.{IsReplay, IsReplayOf, RisesFrom, actor_at, opening_actor, opening_client, own_steps}
 use Rattle.qu_replay.specs.Standing.{StandsWell}
 use Rattle.qu_replay.specs.Told.{AreTold}
-use Rattle.qu_replay.specs.Operations.{begun_operations, ended_operations}
+use Rattle.qu_replay.specs.Operations.{begun_operations, ended_operations, invoked_by}
 use Rattle.qu_replay.proofs.Told.{told_is_run, told_from_opening}
 use Rattle.qu_replay.proofs.Operations.{told_invoked, told_sent}
 use Rattle.qu_lock.specs.Calls.{calls_by}
@@ -31,14 +31,10 @@ use Rattle.qu_gather.specs.Live.{IsCorrectClient, AreCallsOf, IsLive}
 use Rattle.qu_gather.specs.Correct.{client_at, correct_replicas, correct_clients}
 use Rattle.qu_gather.specs.Gathered.{all_steps, steps_of_replica, steps_of_client, replica_name, client_name, ReplicasStand, ClientsStand, HasEnded, HaveEnded, AreTheirOwn}
 use Rattle.qu_gather.proofs.Ended.{ends_told, ends_own, all_own, replays_end, client_balanced}
+use Rattle.qu_gather.proofs.Recorded.{calls_recorded}
+use Rattle.qu_gather.proofs.Replied.{IsIdleEnd, EachEnds, held_ends, operations_ended}
 use Rattle.qu_gather.proofs.Numbers.{AscendsFrom, replica_numbers, client_numbers, replicas_ascend, clients_ascend, is_among, has_client}
 use Rattle.qu_gather.proofs.Own.{replica_steps, client_steps, no_replica_steps, no_client_steps, own_replica, own_client}
-
--- nothing is under way at a client
-abbrev IsIdleEnd : Option Actor → Type 0
-IsIdleEnd None = Unit {0}
-IsIdleEnd (Some (Replicates state)) = Unit {0}
-IsIdleEnd (Some (Asks state)) = state.work ≡ None
 
 -- these steps of a party lead from its opening to an end at which nothing is under way
 record IsHeld (setup : Setup) (me : Party) (steps : List KeptStep) : Type 0 where
@@ -321,13 +317,21 @@ gathered_live setup calls held others merged entries limits callable own replica
     let replays : (me : Party) → IsReplayOf me (opening_actor setup me) (own_steps me merged) (ends me) =
     λ me. subst (λ (it : List KeptStep). IsReplayOf me (opening_actor setup me) it (ends me)) (sym (same me))
     (fact me).replay in
+    let invoked : (me : ClientId) → invoked_by me entries ≡ calls_by me calls =
+    λ me.
+    told_invoked [] merged entries me told ∙ ap begun_operations (same (party.Client me))
+    ∙ all_begun setup calls held others me callable gathered in
+    let each : (me : ClientId) → EachEnds me 0 (own_steps (party.Client me) merged) =
+    λ me.
+    held_ends setup me (own_steps (party.Client me) merged) (ends (party.Client me)) (replays (party.Client me))
+    (fact (party.Client me)).idle in
     record {
       is_run = told_is_run setup merged entries ends limits replays told;
       setup_is = refl;
       no_injection = told_sent [] merged entries told;
-      invoked = λ me.
-          told_invoked [] merged entries me told ∙ ap begun_operations (same (party.Client me))
-          ∙ all_begun setup calls held others me callable gathered;
+      invoked = invoked;
+      recorded = λ me. calls_recorded setup calls entries me callable (invoked me);
+      answered = operations_ended setup merged entries each told;
       ended = λ me.
           ends_told [] merged entries me told
           ∙ ends_own me merged

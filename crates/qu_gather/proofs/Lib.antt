@@ -4,4 +4,6 @@ pub mod Opening
 pub mod Putting
 pub mod Moving
 pub mod Ended
+pub mod Recorded
+pub mod Replied
 pub mod Gathering
