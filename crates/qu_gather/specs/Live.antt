@@ -16,6 +16,7 @@ use Rattle.qu_world.specs.State.{correct_client}
 use Rattle.qu_world.specs.Run.{IsRun, run, events_of}
 use Rattle.qu_replay.specs.Operations.{invoked_by, IsNotInjected}
 use Rattle.qu_lock.specs.Calls.{calls_by}
+use Rattle.qu_gather.specs.Ticks.{TicksAnswered}
 
 -- a client of the setup that is not faulty
 pub record IsCorrectClient (setup : Setup) (me : ClientId) : Type 0 where
@@ -60,6 +61,8 @@ pub record IsLive (setup : Setup) (calls : List (ClientId × Op)) (trace : Trace
   -- the record of operations has those that each client was called for, in their order, and each has its end
   pub recorded : (me : ClientId) → operations_by me (operations_of trace) ≡ calls_by me calls
   pub answered : AllByRecursion HasEnd (operations_of trace)
+  -- a client ticks only once its letters to correct parties were delivered, and what was sent to it upon them
+  pub ticks : TicksAnswered trace.setup trace.entries
   -- in the end no operation of a correct client is under way
   pub idle : (me : ClientId)
       → IfSome (correct_client (run trace.setup (events_of trace.entries)) me)
