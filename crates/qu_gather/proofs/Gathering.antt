@@ -22,7 +22,7 @@ use Rattle.qu_replay.specs.declared.kept_step.KeptStep.{KeptStep}
 use Rattle.qu_replay.specs.Replays.{IsReplay, IsReplayOf, RisesFrom, actor_at, opening_actor, opening_client, own_steps}
 use Rattle.qu_replay.specs.Standing.{StandsWell}
 use Rattle.qu_replay.specs.Told.{AreTold}
-use Rattle.qu_replay.specs.Operations.{begun_operations, ended_operations}
+use Rattle.qu_replay.specs.Operations.{begun_operations, ended_operations, invoked_by}
 use Rattle.qu_replay.proofs.Told.{told_is_run, told_from_opening}
 use Rattle.qu_replay.proofs.Operations.{told_invoked, told_sent}
 use Rattle.qu_lock.specs.Calls.{calls_by}
@@ -31,14 +31,12 @@ use Rattle.qu_gather.specs.Live.{IsCorrectClient, AreCallsOf, IsLive}
 use Rattle.qu_gather.specs.Correct.{client_at, correct_replicas, correct_clients}
 use Rattle.qu_gather.specs.Gathered.{all_steps, steps_of_replica, steps_of_client, replica_name, client_name, ReplicasStand, ClientsStand, HasEnded, HaveEnded, AreTheirOwn}
 use Rattle.qu_gather.proofs.Ended.{ends_told, ends_own, all_own, replays_end, client_balanced}
+use Rattle.qu_gather.specs.Ticks.{late_letter}
+use Rattle.qu_gather.proofs.Recorded.{calls_recorded}
+use Rattle.qu_gather.proofs.Replied.{IsIdleEnd, EachEnds, held_ends, operations_ended}
+use Rattle.qu_gather.proofs.Waiting.{ticks_answered}
 use Rattle.qu_gather.proofs.Numbers.{AscendsFrom, replica_numbers, client_numbers, replicas_ascend, clients_ascend, is_among, has_client}
 use Rattle.qu_gather.proofs.Own.{replica_steps, client_steps, no_replica_steps, no_client_steps, own_replica, own_client}
-
--- nothing is under way at a client
-abbrev IsIdleEnd : Option Actor → Type 0
-IsIdleEnd None = Unit {0}
-IsIdleEnd (Some (Replicates state)) = Unit {0}
-IsIdleEnd (Some (Asks state)) = state.work ≡ None
 
 -- these steps of a party lead from its opening to an end at which nothing is under way
 record IsHeld (setup : Setup) (me : Party) (steps : List KeptStep) : Type 0 where
@@ -304,9 +302,10 @@ pub gathered_live : (setup : Setup) (calls : List (ClientId × Op)) (held : List
     → ClientsStand setup calls others → HaveEnded calls others
     → ((me : Party) → RisesFrom 0 (own_steps me (all_steps held others))
     → own_steps me merged ≡ own_steps me (all_steps held others))
-    → AreTold [] merged entries
+    → AreTold [] merged entries → late_letter setup [] entries ≡ None
     → IsLive setup calls (record { setup = setup; entries = entries })
-gathered_live setup calls held others merged entries limits callable own replicas_stand clients_stand ended kept told =
+gathered_live setup calls held others merged entries limits callable own replicas_stand clients_stand ended kept told
+    in_time =
     let gathered : IsGathered setup calls held others = record {
       own = own;
       replicas_stand = replicas_stand;
@@ -321,13 +320,22 @@ gathered_live setup calls held others merged entries limits callable own replica
     let replays : (me : Party) → IsReplayOf me (opening_actor setup me) (own_steps me merged) (ends me) =
     λ me. subst (λ (it : List KeptStep). IsReplayOf me (opening_actor setup me) it (ends me)) (sym (same me))
     (fact me).replay in
+    let invoked : (me : ClientId) → invoked_by me entries ≡ calls_by me calls =
+    λ me.
+    told_invoked [] merged entries me told ∙ ap begun_operations (same (party.Client me))
+    ∙ all_begun setup calls held others me callable gathered in
+    let each : (me : ClientId) → EachEnds me 0 (own_steps (party.Client me) merged) =
+    λ me.
+    held_ends setup me (own_steps (party.Client me) merged) (ends (party.Client me)) (replays (party.Client me))
+    (fact (party.Client me)).idle in
     record {
       is_run = told_is_run setup merged entries ends limits replays told;
       setup_is = refl;
       no_injection = told_sent [] merged entries told;
-      invoked = λ me.
-          told_invoked [] merged entries me told ∙ ap begun_operations (same (party.Client me))
-          ∙ all_begun setup calls held others me callable gathered;
+      invoked = invoked;
+      recorded = λ me. calls_recorded setup calls entries me callable (invoked me);
+      answered = operations_ended setup merged entries each told;
+      ticks = ticks_answered setup entries in_time;
       ended = λ me.
           ends_told [] merged entries me told
           ∙ ends_own me merged
@@ -351,11 +359,11 @@ pub gathered_run : (setup named : Setup) (calls named_calls : List (ClientId × 
     → none ≡ [] → front ≡ none ++ flat_map steps_of_replica held → all ≡ front ++ flat_map steps_of_client others
     → ReplicasStand named held → ClientsStand named named_calls others
     → ((me : Party) → RisesFrom 0 (own_steps me all) → own_steps me merged ≡ own_steps me all)
-    → merged_now ≡ merged → AreTold [] merged_now entries
+    → merged_now ≡ merged → AreTold [] merged_now entries → late_letter setup [] entries ≡ None
     → IsLive setup calls (record { setup = setup; entries = entries })
 gathered_run setup named calls named_calls held held_now others others_now none front all merged merged_now entries
     names limits callable ended held_is others_are own none_is front_is all_is replicas_stand clients_stand kept now
-    told =
+    told in_time =
     let own_here : AreTheirOwn setup held others =
     subst (λ (it : List (ReplicaState × List KeptStep)). AreTheirOwn setup it others) held_is
     (subst (AreTheirOwn setup held_now) others_are own) in
@@ -369,4 +377,4 @@ gathered_run setup named calls named_calls held held_now others others_now none 
     ended
     (subst (λ (it : List (Party × KeptStep)). (me : Party) → RisesFrom 0 (own_steps me it)
     → own_steps me merged ≡ own_steps me it) all_are kept)
-    (subst (λ (it : List (Party × KeptStep)). AreTold [] it entries) now told)
+    (subst (λ (it : List (Party × KeptStep)). AreTold [] it entries) now told) in_time

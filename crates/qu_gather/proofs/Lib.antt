@@ -4,4 +4,7 @@ pub mod Opening
 pub mod Putting
 pub mod Moving
 pub mod Ended
+pub mod Waiting
+pub mod Recorded
+pub mod Replied
 pub mod Gathering

@@ -1,6 +1,7 @@
 -- Whether another actor stands behind a lock.
-use Rattle.std.proofs.Common.{◌≡◌, ℕ, ◌+◌, ◌<◌, ◌≤◌, Bool, true, false, cond, eqb, List, [], ◌∷◌, ◌++◌, map, length, get_or, drop, Option, None, Some, Result, Err, refl, sym, ap, subst, ◌∙◌, arith, inl, inr}
+use Rattle.std.proofs.Common.{◌≡◌, ℕ, ◌+◌, ◌<◌, ◌≤◌, Bool, true, false, cond, eqb, List, [], ◌∷◌, ◌++◌, map, length, get_or, drop, Option, None, Some, refl, sym, ap, subst, ◌∙◌, arith, inl, inr}
 use Rattle.std.specs.Prelude.{slice_get}
+use Rattle.std.specs.Option.{option_or}
 use Rattle.std.proofs.lemmas.Bool.{cases_Bool, eqb-true}
 use Rattle.std.proofs.lemmas.List.{at_drop_more, at_drop_all, get_or-map, get_or_default, length-map}
 use Rattle.qu_base.specs.declared.party.ClientId.{ClientId}
@@ -14,14 +15,10 @@ use Rattle.qu_trace.specs.Faulty.{is_same}
 use Rattle.qu_trace.specs.declared.trace.Setup.{Setup}
 use Rattle.qu_replay.specs.declared.kept_step.KeptStep.{KeptStep}
 use Rattle.qu_replay.specs.Entries.{IsFirstUnsent}
-use Rattle.qu_replay.specs.Merged.{AreByTicket, steps_of_ticket}
 use Rattle.qu_post.specs.declared.filed.Filed.{Filed}
-use Rattle.qu_gather.specs.declared.torn.LiveFail.{LiveFail}
-use Rattle.qu_gather.specs.declared.torn.LiveFail.TheVariants as fail
-use Rattle.qu_gather.specs.declared.torn.Torn.TheVariants as torn
 use Rattle.qu_gather.specs.Correct.{correct_replicas, correct_clients}
 use Rattle.qu_gather.specs.Gathered.{replica_name, client_name}
-use Rattle.qu_gather.specs.Torn.{or_moved, first_moved, replica_locks, client_locks, replicas_behind, clients_behind, moved_actor, TellsMoved, IsOfLocks, IsPairOf, TakesUnsent, IsUntold, TellsSteps}
+use Rattle.qu_gather.specs.Torn.{first_moved, replica_locks, client_locks, replicas_behind, clients_behind, moved_actor, IsPairOf, TakesUnsent}
 
 -- ---- one lock after another
 
@@ -160,7 +157,7 @@ clients_are (name ∷ names) (one ∷ held) same none =
     ]
 
 moved_append : (locks held locks' held' : List Party) → length locks ≡ length held
-    → first_moved (locks ++ locks') (held ++ held') ≡ or_moved (first_moved locks held) (first_moved locks' held')
+    → first_moved (locks ++ locks') (held ++ held') ≡ option_or (first_moved locks held) (first_moved locks' held')
 unfolding first_moved
 moved_append [] [] locks' held' same = refl
 moved_append [] (here ∷ held) locks' held' same = absurd (omega (arith, same))
@@ -177,7 +174,7 @@ pub all_moved : (setup : Setup) (held : List (ReplicaState × List KeptStep))
     → length held ≡ length (correct_replicas setup (replicas setup.bounds))
     → first ≡ first_moved (replica_locks (correct_replicas setup (replicas setup.bounds))) (replicas_behind held)
     → second ≡ first_moved (client_locks (correct_clients setup setup.clients)) (clients_behind others)
-    → moved_actor setup held others ≡ or_moved first second
+    → moved_actor setup held others ≡ option_or first second
 all_moved setup held others first second same first_is second_is =
     let locks = correct_replicas setup (replicas setup.bounds) in
     let locks_are = length-map locks (λ (me : ReplicaId). party.Replica me) in
@@ -185,41 +182,9 @@ all_moved setup held others first second same first_is second_is =
     moved_append (replica_locks locks) (replicas_behind held) (client_locks (correct_clients setup setup.clients))
     (clients_behind others) (omega (arith, same, locks_are, behind_are))
     ∙ ap (λ (it : Option (Party × Party)).
-    or_moved it (first_moved (client_locks (correct_clients setup setup.clients)) (clients_behind others)))
+    option_or it (first_moved (client_locks (correct_clients setup setup.clients)) (clients_behind others)))
     (sym first_is)
-    ∙ ap (or_moved first) (sym second_is)
-
--- what is told behind the test of the locks tells of no lock
-pub none_tells : (X : Type 0) (moved : Option (Party × Party)) (merged : List (Party × KeptStep))
-    (journal : List Filed) (why : LiveFail) → moved ≡ None → IsUntold merged journal why
-    → TellsMoved {X = X} moved (Err why)
-none_tells X moved merged journal (fail.Torn (torn.Moved lock held)) is untold = absurd untold
-none_tells X moved merged journal (fail.Torn (torn.Steps kept filed)) is untold = is
-none_tells X moved merged journal fail.NoMemory is untold = tt
-
--- but of a step on what was not sent
-pub steps_tell : (X : Type 0) (steps merged : List (Party × KeptStep)) (journal : List Filed) (why : LiveFail)
-    → AreByTicket 0 merged
-    → ((ticket : ℕ) → steps_of_ticket ticket merged ≡ steps_of_ticket ticket steps) → IsUntold merged journal why
-    → TellsSteps {X = X} steps journal (Err why)
-steps_tell X steps merged journal (fail.Torn (torn.Moved lock held)) sorted ties untold = tt
-steps_tell X steps merged journal (fail.Torn (torn.Steps kept filed)) sorted ties untold =
-    record { merged = merged; sorted = sorted; ties = ties; takes = untold }
-steps_tell X steps merged journal fail.NoMemory sorted ties untold = tt
-
--- the test of the locks tells of no steps
-pub locks_tell : (X : Type 0) (steps : List (Party × KeptStep)) (journal : List Filed) (why : LiveFail)
-    → IsOfLocks why → TellsSteps {X = X} steps journal (Err why)
-locks_tell X steps journal (fail.Torn (torn.Moved lock held)) of = tt
-locks_tell X steps journal (fail.Torn (torn.Steps kept filed)) of = absurd of
-locks_tell X steps journal fail.NoMemory of = tt
-
--- the answer of the test is handed on
-pub tells_on : (X Y : Type 0) (moved : Option (Party × Party)) (why : LiveFail) → TellsMoved {X = X} moved (Err why)
-    → TellsMoved {X = Y} moved (Err why)
-tells_on X Y moved (fail.Torn (torn.Moved lock held)) told = told
-tells_on X Y moved (fail.Torn (torn.Steps kept filed)) told = told
-tells_on X Y moved fail.NoMemory told = tt
+    ∙ ap (option_or first) (sym second_is)
 
 -- what is told of the first step that takes what was not sent
 pub pair_takes : (merged : List (Party × KeptStep)) (at : ℕ) (journal : List Filed)
@@ -230,21 +195,11 @@ pair_takes merged at journal made first pair =
     subst (λ (it : Option (Party × KeptStep)). IsPairOf it journal made) first.found pair in
     record { at = at; first = first; kept_is = here.0; filed_is = here.1 }
 
--- what was tested is what is held
-pub moved_here : {X : Type 0} (setup : Setup) (held_now held : List (ReplicaState × List KeptStep))
-    (others_now others : List (ClientState × List KeptStep)) (answer : Result X LiveFail) → held_now ≡ held
-    → others_now ≡ others → TellsMoved (moved_actor setup held_now others_now) answer
-    → TellsMoved (moved_actor setup held others) answer
-moved_here setup held_now held others_now others answer held_is others_are told =
-    subst (λ (it : List (ClientState × List KeptStep)). TellsMoved (moved_actor setup held it) answer) others_are
-    (subst (λ (it : List (ReplicaState × List KeptStep)). TellsMoved (moved_actor setup it others_now) answer) held_is
-    told)
-
 -- of no lock another actor stands behind it
 pub none_found : (locks held : List Party) (at : ℕ) (all : Option (Party × Party)) → length locks ≤ at
     → first_moved (drop at locks) (drop at held) ≡ all → None ≡ all
 none_found locks held at all end so_far = sym (moved_end locks held at end) ∙ so_far
 
-pub or_none : (first later : Option (Party × Party)) → or_moved first later ≡ None → (first ≡ None) × (later ≡ None)
+pub or_none : (first later : Option (Party × Party)) → option_or first later ≡ None → (first ≡ None) × (later ≡ None)
 or_none None later is = (refl, is)
 or_none (Some moved) later is = absurd (none-some moved (sym is))

@@ -1,4 +1,5 @@
 pub mod Live
 pub mod Correct
 pub mod Gathered
+pub mod Ticks
 pub mod Torn

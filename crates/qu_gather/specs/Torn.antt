@@ -12,13 +12,15 @@ use Rattle.qu_trace.specs.declared.trace.Setup.{Setup}
 use Rattle.qu_frames.specs.declared.input.Input.{Input}
 use Rattle.qu_frames.specs.declared.input.Input.TheVariants.{Frame, Tick, Invoke}
 use Rattle.qu_replay.specs.declared.kept_step.KeptStep.{KeptStep}
-use Rattle.qu_replay.specs.Entries.{IsFirstUnsent}
-use Rattle.qu_replay.specs.Merged.{AreByTicket, steps_of_ticket}
+use Rattle.qu_trace.specs.declared.trace.Entry.{Entry}
+use Rattle.qu_replay.specs.Entries.{IsFirstUnsent, WereSentBefore}
+use Rattle.qu_replay.specs.Merged.{AreByTicket, steps_of_ticket, merged_entries}
 use Rattle.qu_post.specs.declared.filed.Filed.{Filed}
 use Rattle.qu_gather.specs.declared.torn.LiveFail.{LiveFail}
 use Rattle.qu_gather.specs.declared.torn.LiveFail.TheVariants as fail
 use Rattle.qu_gather.specs.declared.torn.Torn.TheVariants as torn
 use Rattle.qu_gather.specs.Correct.{correct_replicas, correct_clients}
+use Rattle.qu_gather.specs.Ticks.{late_letter}
 
 -- ---- another actor behind a lock
 
@@ -27,11 +29,6 @@ unfoldable pub first_moved : List Party → List Party → Option (Party × Part
 first_moved [] held = None
 first_moved (lock ∷ locks) [] = None
 first_moved (lock ∷ locks) (here ∷ held) = if is_same here lock then first_moved locks held else Some (lock, here)
-
--- the first of two answers, where it is one
-abbrev pub or_moved : Option (Party × Party) → Option (Party × Party) → Option (Party × Party)
-or_moved None later = later
-or_moved (Some moved) later = Some moved
 
 abbrev pub replica_locks : List ReplicaId → List Party
 replica_locks names = map (λ (me : ReplicaId). party.Replica me) names
@@ -59,12 +56,14 @@ abbrev pub TellsMoved : {X : Type 0} → Option (Party × Party) → Result X Li
 TellsMoved moved (Ok x) = moved ≡ None
 TellsMoved moved (Err (fail.Torn (torn.Moved lock held))) = moved ≡ Some (lock, held)
 TellsMoved moved (Err (fail.Torn (torn.Steps kept filed))) = moved ≡ None
+TellsMoved moved (Err (fail.Torn (torn.Early client letter))) = moved ≡ None
 TellsMoved moved (Err fail.NoMemory) = Unit {0}
 
--- no steps are told not to fit
+-- only locks are told not to fit
 abbrev pub IsOfLocks : LiveFail → Type 0
 IsOfLocks (fail.Torn (torn.Moved lock held)) = Unit {0}
 IsOfLocks (fail.Torn (torn.Steps kept filed)) = ⊥
+IsOfLocks (fail.Torn (torn.Early client letter)) = ⊥
 IsOfLocks fail.NoMemory = Unit {0}
 
 -- ---- a step on what was not sent
@@ -93,6 +92,7 @@ pub record TakesUnsent (merged : List (Party × KeptStep)) (journal : List Filed
 abbrev pub IsUntold : List (Party × KeptStep) → List Filed → LiveFail → Type 0
 IsUntold merged journal (fail.Torn (torn.Moved lock held)) = ⊥
 IsUntold merged journal (fail.Torn (torn.Steps kept filed)) = TakesUnsent merged journal kept filed
+IsUntold merged journal (fail.Torn (torn.Early client letter)) = ⊥
 IsUntold merged journal fail.NoMemory = Unit {0}
 
 -- the same of the steps of all actors, put into the order of their tickets, those of one ticket as they stood
@@ -108,9 +108,35 @@ abbrev pub TellsSteps : {X : Type 0} → List (Party × KeptStep) → List Filed
 TellsSteps steps journal (Ok x) = Unit {0}
 TellsSteps steps journal (Err (fail.Torn (torn.Moved lock held))) = Unit {0}
 TellsSteps steps journal (Err (fail.Torn (torn.Steps kept filed))) = HasUnsent steps journal kept filed
+TellsSteps steps journal (Err (fail.Torn (torn.Early client letter))) = Unit {0}
 TellsSteps steps journal (Err fail.NoMemory) = Unit {0}
 
 -- a kept step, if there is one, and the filed one that it names as the sender of its letter
 abbrev pub IsPairOf : Option (Party × KeptStep) → List Filed → Option KeptStep × Option Filed → Type 0
 IsPairOf None journal made = made ≡ (None, None)
 IsPairOf (Some step) journal made = (made.0 ≡ Some step.1) × (made.1 ≡ sender_of step.1.input journal)
+
+-- ---- a tick that came too early
+
+-- why entries that tell steps are no run on threads: a client ticked before a letter that it waited for was delivered
+abbrev pub IsEarly : Setup → List Entry → LiveFail → Type 0
+IsEarly setup entries (fail.Torn (torn.Moved lock held)) = ⊥
+IsEarly setup entries (fail.Torn (torn.Steps kept filed)) = ⊥
+IsEarly setup entries (fail.Torn (torn.Early client letter)) = late_letter setup [] entries ≡ Some (client, letter)
+IsEarly setup entries fail.NoMemory = Unit {0}
+
+-- the same of the steps of all actors, put into the order of their tickets, where each took what was sent to its actor
+pub record HasEarly (setup : Setup) (steps : List (Party × KeptStep)) (client : ClientId) (letter : ℕ) : Type 0 where
+  pub merged : List (Party × KeptStep)
+  pub sorted : AreByTicket 0 merged
+  pub ties : (ticket : ℕ) → steps_of_ticket ticket merged ≡ steps_of_ticket ticket steps
+  pub sent : WereSentBefore [] merged
+  pub late : late_letter setup [] (merged_entries merged) ≡ Some (client, letter)
+
+-- a client is told to have ticked too early only where it did
+abbrev pub TellsEarly : {X : Type 0} → Setup → List (Party × KeptStep) → Result X LiveFail → Type 0
+TellsEarly setup steps (Ok x) = Unit {0}
+TellsEarly setup steps (Err (fail.Torn (torn.Moved lock held))) = Unit {0}
+TellsEarly setup steps (Err (fail.Torn (torn.Steps kept filed))) = Unit {0}
+TellsEarly setup steps (Err (fail.Torn (torn.Early client letter))) = HasEarly setup steps client letter
+TellsEarly setup steps (Err fail.NoMemory) = Unit {0}

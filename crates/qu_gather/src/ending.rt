@@ -1,16 +1,20 @@
-ghost use Rattle.std.specs.Prelude.{◌≡◌, ◌==◌, ◌&&◌, [], length, slice_get, IfOk, IfErr, OnOk};
+ghost use Rattle.std.specs.Prelude.{◌≡◌, ◌==◌, ◌&&◌, [], length, slice_get, None, IfOk, IfErr, OnOk};
 ghost use Rattle.std.specs.Option.{option_copied};
 ghost use Rattle.qu_base.specs.Bounds.{replicas};
 ghost use Rattle.qu_trace.specs.Faulty.{is_same};
 ghost use Rattle.qu_world.specs.Run.{IsSetup};
 ghost use Rattle.qu_replay.specs.Told.{AreTold};
+ghost use Rattle.qu_replay.specs.Merged.{merged_entries};
+ghost use Rattle.qu_replay.specs.Entries.{WereSentBefore};
 ghost use Rattle.qu_gather.specs.Correct.{correct_replicas, correct_clients};
 ghost use Rattle.qu_gather.specs.Live.{IsLive, AreCallsOf};
 ghost use Rattle.qu_gather.specs.Gathered.{all_steps, HaveEnded, AreTheirOwn};
-ghost use Rattle.qu_gather.specs.Torn.{filed_at, sender_of, or_moved, moved_actor, TellsMoved, IsOfLocks, IsPairOf, IsUntold, TellsSteps};
+ghost use Rattle.qu_gather.specs.Torn.{filed_at, sender_of, moved_actor, TellsMoved, IsOfLocks, IsPairOf, IsUntold, IsEarly, TellsSteps, TellsEarly};
+ghost use Rattle.qu_gather.specs.Ticks.{late_letter};
 
 use crate::correct::{correct_clients, correct_replicas};
 use crate::held::{moved_client, moved_replica, put_clients, put_replicas};
+use crate::ticks::late_letter;
 use crate::{LiveFail, Torn};
 use qu_base::{ClientId, List, NoMemory, Party};
 use qu_client::Client;
@@ -24,7 +28,8 @@ use qu_trace::{Entry, Setup, Trace};
 use std::alloc::Global;
 
 /// What stood behind the locks of a run of this setup with these calls, as one run: all kept steps in the order of
-/// their tickets. It is torn where another actor stands behind a lock, or where a step took what was not sent to it.
+/// their tickets. It is torn where another actor stands behind a lock, where a step took what was not sent to it, or
+/// where a client ticked before a letter that it waited for was delivered.
 pub fn gather<N: RunName>(
     alloc: Global,
     setup: Setup,
@@ -42,6 +47,7 @@ pub fn gather<N: RunName>(
     ensures live { IfOk result (λ trace. IsLive setup calls.now trace) }
     ensures moved { TellsMoved (moved_actor setup held.items others.items) result }
     ensures steps { TellsSteps (all_steps held.items others.items) journal result }
+    ensures early { TellsEarly setup (all_steps held.items others.items) result }
 {
     are_their_own(alloc, &setup, &held, &others)?;
     let mut steps = List::new(alloc);
@@ -49,6 +55,7 @@ pub fn gather<N: RunName>(
     put_clients(&mut steps, others)?;
     let merged = by_ticket(steps)?;
     let entries = told(alloc, merged.as_slice(), journal.as_slice())?;
+    tick_in_time(alloc, &setup, entries.as_slice())?;
     Ok(Trace { setup, entries })
 }
 
@@ -67,22 +74,10 @@ fn are_their_own<N: RunName>(
 {
     let replicas = correct_replicas(alloc, setup)?;
     let clients = correct_clients(alloc, setup)?;
-    match or_moved(
-        moved_replica(replicas.as_slice(), held),
-        moved_client(clients.as_slice(), others),
-    ) {
+    let moved = moved_replica(replicas.as_slice(), held);
+    match moved.or(moved_client(clients.as_slice(), others)) {
         Some((lock, held)) => Err(LiveFail::Torn(Torn::Moved { lock, held })),
         None => Ok(()),
-    }
-}
-
-/// The first of two answers, where it is one.
-fn or_moved(first: Option<(Party, Party)>, later: Option<(Party, Party)>) -> Option<(Party, Party)>
-    ensures { result ≡ or_moved first later }
-{
-    match first {
-        Some(moved) => Some(moved),
-        None => later,
     }
 }
 
@@ -93,6 +88,8 @@ fn told(
     journal: &[Filed],
 ) -> Result<List<Entry>, LiveFail>
     ensures told { IfOk result (λ entries. AreTold [] merged.now entries) }
+    ensures entries { IfOk result (λ entries. entries ≡ merged_entries merged.now) }
+    ensures sent { IfOk result (λ entries. WereSentBefore [] merged.now) }
     ensures untold { IfErr result (IsUntold merged.now journal.now) }
 {
     match entries_of(alloc, merged) {
@@ -102,6 +99,17 @@ fn told(
             Err(LiveFail::Torn(Torn::Steps { kept, filed }))
         }
         Err(EntriesFail::NoMemory) => Err(LiveFail::NoMemory),
+    }
+}
+
+/// Whether no client ticked before a letter that it waited for was delivered; else the first such letter.
+fn tick_in_time(alloc: Global, setup: &Setup, entries: &[Entry]) -> Result<(), LiveFail>
+    ensures in_time { OnOk result (late_letter setup.now [] entries.now ≡ None) }
+    ensures early { IfErr result (IsEarly setup.now entries.now) }
+{
+    match late_letter(alloc, setup, entries)? {
+        Some((client, letter)) => Err(LiveFail::Torn(Torn::Early { client, letter })),
+        None => Ok(()),
     }
 }
 

@@ -4,6 +4,7 @@
 mod correct;
 mod ending;
 mod held;
+mod ticks;
 mod torn;
 
 pub use correct::{correct_clients, correct_replicas};

@@ -1,4 +1,4 @@
-use qu_base::{NoMemory, Party};
+use qu_base::{ClientId, NoMemory, Party};
 use qu_post::Filed;
 use qu_replay::KeptStep;
 
@@ -14,6 +14,11 @@ pub enum Torn {
     Steps {
         kept: Option<KeptStep>,
         filed: Option<Filed>,
+    },
+    /// A client ticked before a letter that it waited for was delivered: this one, by its number in the run.
+    Early {
+        client: ClientId,
+        letter: u64,
     },
 }
 

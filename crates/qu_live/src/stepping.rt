@@ -1,4 +1,4 @@
-ghost use Rattle.std.specs.Prelude.{◌≡◌, ◌≤◌, IfOk, IfSome};
+ghost use Rattle.std.specs.Prelude.{◌≡◌, ◌≤◌, ◌+◌, if◌then◌else◌, length, IfOk, IfSome};
 ghost use Rattle.qu_replay.specs.Steps.{IsTakenByClient};
 ghost use Rattle.qu_replay.specs.Replays.{first_free_ticket, IsAfterLetter};
 ghost use Rattle.qu_lock.specs.Calls.{calls_by, IsNextCall};
@@ -14,14 +14,17 @@ use qu_replica::Replica;
 use std::alloc::Global;
 use std::sync::Wait;
 
-/// The replica takes a step on the oldest letter that waits for it, and files it. False where none waits.
+/// The replica takes a step on the oldest letter that waits for it, and files it. False where none waits. Where it is
+/// true one step more is kept, and else none.
 pub fn step_replica<N: RunName, R: Wait, G: Gate>(
     rt: &R,
     alloc: Global,
     post: &Post,
     gate: &G,
     kept: &mut Kept<Replica, N>,
-) -> Result<bool, NoMemory> {
+) -> Result<bool, NoMemory>
+    ensures { IfOk result (λ took. length kept.new.1 ≡ length kept.old.1 + (if took then 1 else 0)) }
+{
     let me = kept.party();
     let Some((name, letter)) = post.lock(rt).take(me) else {
         return Ok(false);
@@ -36,7 +39,7 @@ pub fn step_replica<N: RunName, R: Wait, G: Gate>(
 }
 
 /// The client takes a step on the oldest letter that waits for it, or begins its next call, or ticks, and files it.
-/// False where there is nothing to do.
+/// False where there is nothing to do. Where it is true one step more is kept, and else none.
 pub fn step_client<N: RunName, R: Wait, G: Gate>(
     rt: &R,
     alloc: Global,
@@ -46,6 +49,7 @@ pub fn step_client<N: RunName, R: Wait, G: Gate>(
     kept: &mut Kept<Client, N>,
 ) -> Result<bool, NoMemory>
     requires { calls.now ≡ N.calls }
+    ensures { IfOk result (λ took. length kept.new.1 ≡ length kept.old.1 + (if took then 1 else 0)) }
 {
     let me = kept.party();
     let Some(input) = next_input(rt, alloc, post, calls, kept)? else {

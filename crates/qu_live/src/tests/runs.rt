@@ -25,13 +25,55 @@ fn one_client<R: Threads + Wait + Sync, G: Gate>(
         kinds: List::one(alloc, KindName::Counter)?,
         liars: List::new(alloc),
     };
-    let parts = List::one(alloc, (ObjectId(0), Method::Add(5)))?;
-    let calls = [(ClientId(1), Op::Act(Act::new(parts)?))];
-    match run_live(rt, alloc, setup, &calls, gate) {
+    let calls = [(ClientId(1), add(alloc, 5)?)];
+    whole(run_live(rt, alloc, setup, &calls, gate))
+}
+
+/// The trace of a run on threads of two clients, each of which adds to a counter twice. Replica 0 says nothing.
+fn mute_replica<R: Threads + Wait + Sync>(rt: &R, alloc: Global) -> Result<Trace, Fail> {
+    let setup = Setup {
+        bounds: Bounds::new(1)?,
+        seed: 7,
+        clients: 2,
+        kinds: List::one(alloc, KindName::Counter)?,
+        liars: List::one(alloc, Party::Replica(ReplicaId(0)))?,
+    };
+    let calls = [
+        (ClientId(1), add(alloc, 1)?),
+        (ClientId(2), add(alloc, 2)?),
+        (ClientId(2), add(alloc, 3)?),
+        (ClientId(1), add(alloc, 4)?),
+    ];
+    whole(run_live(rt, alloc, setup, &calls, &OpenGate))
+}
+
+/// Adds to the counter.
+fn add(alloc: Global, number: u64) -> Result<Op, Fail> {
+    let parts = List::one(alloc, (ObjectId(0), Method::Add(number)))?;
+    Ok(Op::Act(Act::new(parts)?))
+}
+
+/// The trace, where there is one.
+fn whole(run: Result<Trace, LiveFail>) -> Result<Trace, Fail> {
+    match run {
         Ok(trace) => Ok(trace),
         Err(LiveFail::Torn(_)) => Err("the run is torn".into()),
         Err(LiveFail::NoMemory) => Err("no memory is left".into()),
     }
+}
+
+/// Whether an event is a tick.
+fn is_tick(event: &Event) -> bool {
+    match event {
+        Event::Tick(_) => true,
+        Event::Invoke(_, _) | Event::Deliver(_) | Event::Inject(_, _) => false,
+    }
+}
+
+/// How many operations end in a trace.
+fn ends(trace: &Trace) -> u64 {
+    let ends = trace.entries.iter().filter(|entry| entry.ended.is_some());
+    ends.count() as u64
 }
 
 /// At which actor each event of a trace happens.
@@ -134,6 +176,13 @@ fn live_order_by_gate(rt: HostRuntime) -> Result<(), Fail> {
 #[test]
 fn live_adds_once(rt: HostRuntime) -> Result<(), Fail> {
     let trace = one_client(&rt, rt.alloc(), &OpenGate)?;
-    let ends = trace.entries.iter().filter(|entry| entry.ended.is_some());
-    holds(ends.count() == 1, "the operation ends once")
+    holds(ends(&trace) == 1, "the operation ends once")
+}
+
+#[test]
+fn live_ticks_where_a_replica_is_mute(rt: HostRuntime) -> Result<(), Fail> {
+    let trace = mute_replica(&rt, rt.alloc())?;
+    let ticks = trace.entries.iter().filter(|entry| is_tick(&entry.event));
+    holds(ticks.count() > 0, "a client ticks")?;
+    holds(ends(&trace) == 4, "each operation ends once")
 }

@@ -11,9 +11,9 @@ use Rattle.qu_gather.proofs.ending.are_their_own.Goals as goal
 pub returns-in-Some-clause-moved : goal.returns-in-Some-clause-moved
 returns-in-Some-clause-moved g c =
     let setup = c.args.setup.now in
-    let replicas_is : c.moved_replica.result
+    let replicas_is : c.moved_replica-moved.result
     ≡ first_moved (replica_locks (correct_replicas setup (replicas setup.bounds))) (replicas_behind c.args.held.now) =
-    c.moved_replica.ensures
+    c.moved_replica-moved.ensures
     ∙ ap (λ (it : List ReplicaId). first_moved (replica_locks it) (replicas_behind c.args.held.now))
     (c.as_slice.ensures.value ∙ c.in_ok-replicas.ensures) in
     let clients_is : c.moved_client.result
@@ -21,16 +21,16 @@ returns-in-Some-clause-moved g c =
     c.moved_client.ensures
     ∙ ap (λ (it : List ClientId). first_moved (client_locks it) (clients_behind c.args.others.now))
     (c.as_slice-2.ensures.value ∙ c.in_ok-clients.ensures) in
-    all_moved setup c.args.held.now c.args.others.now c.moved_replica.result c.moved_client.result
+    all_moved setup c.args.held.now c.args.others.now c.moved_replica-moved.result c.moved_client.result
     c.requires.replicas replicas_is clients_is
-    ∙ sym c.or_moved.ensures ∙ c.in-Some.is
+    ∙ sym c.or.ensures ∙ c.in-Some.is
 
 pub returns-clause-moved : goal.returns-clause-moved
 returns-clause-moved g c =
     let setup = c.args.setup.now in
-    let replicas_is : c.moved_replica.result
+    let replicas_is : c.moved_replica-moved.result
     ≡ first_moved (replica_locks (correct_replicas setup (replicas setup.bounds))) (replicas_behind c.args.held.now) =
-    c.moved_replica.ensures
+    c.moved_replica-moved.ensures
     ∙ ap (λ (it : List ReplicaId). first_moved (replica_locks it) (replicas_behind c.args.held.now))
     (c.as_slice.ensures.value ∙ c.in_ok-replicas.ensures) in
     let clients_is : c.moved_client.result
@@ -38,16 +38,16 @@ returns-clause-moved g c =
     c.moved_client.ensures
     ∙ ap (λ (it : List ClientId). first_moved (client_locks it) (clients_behind c.args.others.now))
     (c.as_slice-2.ensures.value ∙ c.in_ok-clients.ensures) in
-    all_moved setup c.args.held.now c.args.others.now c.moved_replica.result c.moved_client.result
+    all_moved setup c.args.held.now c.args.others.now c.moved_replica-moved.result c.moved_client.result
     c.requires.replicas replicas_is clients_is
-    ∙ sym c.or_moved.ensures ∙ c.in-None.is
+    ∙ sym c.or.ensures ∙ c.in-None.is
 
 pub returns-clause-own : goal.returns-clause-own
 returns-clause-own g c =
     let setup = c.args.setup.now in
-    let replicas_is : c.moved_replica.result
+    let replicas_is : c.moved_replica-moved.result
     ≡ first_moved (replica_locks (correct_replicas setup (replicas setup.bounds))) (replicas_behind c.args.held.now) =
-    c.moved_replica.ensures
+    c.moved_replica-moved.ensures
     ∙ ap (λ (it : List ReplicaId). first_moved (replica_locks it) (replicas_behind c.args.held.now))
     (c.as_slice.ensures.value ∙ c.in_ok-replicas.ensures) in
     let clients_is : c.moved_client.result
@@ -55,7 +55,7 @@ returns-clause-own g c =
     c.moved_client.ensures
     ∙ ap (λ (it : List ClientId). first_moved (client_locks it) (clients_behind c.args.others.now))
     (c.as_slice-2.ensures.value ∙ c.in_ok-clients.ensures) in
-    let none = or_none c.moved_replica.result c.moved_client.result (sym c.or_moved.ensures ∙ c.in-None.is) in
+    let none = or_none c.moved_replica-moved.result c.moved_client.result (sym c.or.ensures ∙ c.in-None.is) in
     record {
       replicas_are = replicas_are (correct_replicas setup (replicas setup.bounds)) c.args.held.now
           (sym c.requires.replicas) (sym replicas_is ∙ none.0);

@@ -1,4 +1,6 @@
 -- What was gathered is a run on threads.
+use Rattle.std.proofs.Common.{[], sym, ap, ◌∙◌}
+use Rattle.qu_gather.specs.Ticks.{late_letter}
 use Rattle.qu_gather.proofs.Gathering.{gathered_run}
 use Rattle.qu_gather.proofs.ending.gather.Goals as goal
 
@@ -10,3 +12,4 @@ returns-clause-live g c =
     c.new-steps.ensures c.in_ok-put_replicas.ensures.steps c.in_ok-put_clients.ensures.steps
     c.in_ok-put_replicas.ensures.stand c.in_ok-put_clients.ensures.stand c.in_ok-merged.ensures.own c.as_slice.ensures
     c.in_ok-entries.ensures.told
+    (ap (late_letter c.args.setup []) (sym c.as_slice-3.ensures) ∙ c.in_ok-tick_in_time.ensures.in_time)
