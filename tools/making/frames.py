@@ -5,7 +5,7 @@ from model.reading import LAST_REPLICA, Unread, read_frame
 from model.values import (
     LAST_ROUND, NO_DIGEST, Body, Candidate, Fetch, Fetched, History, ObjectSet, Party, Reply, Request, Sealed)
 from making.values import (
-    read_act, read_ask, read_name, read_object, read_stamp, read_stamp_of, read_state)
+    read_act, read_ask, read_group, read_name, read_object, read_stamp, read_stamp_of, read_state)
 from making.verdicts import read_verdict
 from making.words import WrongWord
 
@@ -71,13 +71,13 @@ class Making:
             body = Body("mend", target=read_object(words))
         else:
             body = read_act(words) if kind == "act" else read_ask(words)
-        target = body.target if kind == "mend" else body.parts[0].object
         sets = {}
         while words.next_is("object"):
             part = self.read_set(words)
             sets[part.object] = part
-        parts = tuple(part for _, part in sorted(sets.items())) or (ObjectSet(target, ()),)
-        return Request(client, number, asked_in, parts, body)
+        for known in () if sets else [body.target] if kind == "mend" else body.objects:
+            sets[known] = ObjectSet(known, ())
+        return Request(client, number, asked_in, tuple(part for _, part in sorted(sets.items())), body)
 
     def read_set(self, words):
         """The entries of an object: the histories that these replicas showed last, and how they are changed."""
@@ -141,7 +141,7 @@ class Making:
             stamp = read_stamp(words, self.letters, history.object)
             words.say("on")
             prior = read_stamp(words, self.letters, history.object)
-            history = history.with_candidate(Candidate(stamp, prior))
+            history = history.with_candidate(Candidate(stamp, prior, read_group(words, history.object, stamp)))
         return history
 
     def read_zeroed(self, words, entry):

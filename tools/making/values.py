@@ -37,12 +37,20 @@ def read_part(words, methods):
     return Part(object_number, method, tuple(arguments))
 
 
+def read_parts(words, methods):
+    """Operations on one object each, with a `+` between each two."""
+    parts = [read_part(words, methods)]
+    while words.next_is("+"):
+        parts.append(read_part(words, methods))
+    return tuple(parts)
+
+
 def read_act(words):
-    return Body("act", (read_part(words, METHODS),))
+    return Body("act", read_parts(words, METHODS))
 
 
 def read_ask(words):
-    return Body("query", (read_part(words, ASKS),))
+    return Body("query", read_parts(words, ASKS))
 
 
 # ---- stamps
@@ -81,6 +89,17 @@ def read_stamp_of(words, letters):
     return object_number, read_stamp(words, letters, object_number)
 
 
+def read_group(words, object_number, stamp):
+    """The group of a candidate of an object: itself, and the times of the candidates that were accepted with it, as
+    `with object 1 at 4`, as often as wanted; none where nothing is told."""
+    group = {}
+    while words.next_is("with object"):
+        other = read_object(words)
+        words.say("at")
+        group[other] = words.number("a time", 1, LAST_TIME)
+    return tuple(sorted({**group, object_number: stamp.time}.items())) if group else ()
+
+
 # ---- answers and states
 
 
@@ -98,17 +117,25 @@ def read_entries(words):
     return words.read(entries_of, "entries as NAME=N,.., or `-` for none")
 
 
-def read_answer(words):
-    """A number, `bytes HEX`, `listing NAME=N,..`, or a refusal of a part, as `over at 0`."""
+def read_item(words):
+    """A number, `bytes HEX` or `listing NAME=N,..`."""
     if words.next_is("bytes"):
-        return Items((words.read(content_of, BYTES_WORDS),))
+        return words.read(content_of, BYTES_WORDS)
     if words.next_is("listing"):
-        return Items((read_entries(words),))
+        return read_entries(words)
+    return words.number("a number")
+
+
+def read_answer(words):
+    """Items with a `+` between each two, or a refusal of a part, as `over at 0`."""
     for refusal, number in REFUSAL_NUMBERS.items():
         if words.next_is(refusal):
             words.say("at")
             return RefusedPart(words.number("the place of a part", 0, 3), number)
-    return Items((words.number("a number"),))
+    items = [read_item(words)]
+    while words.next_is("+"):
+        items.append(read_item(words))
+    return Items(tuple(items))
 
 
 def read_value(words):

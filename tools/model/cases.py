@@ -1,8 +1,10 @@
 """Stored cases: how a topic is read, and the answers that the model gives to the commands that it knows."""
+import hashlib
 import os
 import re
 from typing import NamedTuple
 
+from model.generator import generated_script
 from model.happening import Happening, NotKnown
 from model.judge import verdict_on
 from model.listing import ListedWorld
@@ -88,13 +90,15 @@ def read_topic(topic):
 # ---- answers
 
 
-def told(data, lines_of):
-    """What a program writes for a script, and its status: `lines_of` has the lines for the world of its run."""
+def told(data, lines_of, lists=False):
+    """What a program writes for a script, and its status: `lines_of` has the lines for the world of its run. Where it
+    `lists` what happens, it does so up to a refusal."""
     try:
-        world = run_of(data, ListedWorld)
+        lines, status = lines_of(run_of(data, ListedWorld)), 0
     except Refused as refused:
-        return f"{refused}\nstatus 3"
-    return "".join(f"{line}\n" for line in lines_of(world)) + "status 0"
+        front = lines_of(refused.world) if lists and refused.world else []
+        lines, status = [*front, str(refused)], 3
+    return "".join(f"{line}\n" for line in lines) + f"status {status}"
 
 
 def world_of(data):
@@ -125,7 +129,7 @@ def points_told(world):
 def listed_words_told(data, words):
     """What qu-letters writes for a script, and its status."""
     lines = {"": ListedWorld.lines, "digests": letter_lines, "bytes": byte_lines}.get(words)
-    return told(data, lines) if lines else "usage: qu-letters [digests | bytes]\nstatus 2"
+    return told(data, lines, lists=True) if lines else "usage: qu-letters [digests | bytes]\nstatus 2"
 
 
 def events_told(command, words, text, names):
@@ -140,7 +144,7 @@ def events_told(command, words, text, names):
     for line in filter(None, lines.split("\n")):
         happening.take(line)
     if command == "listed":
-        return "\n".join(happening.world.lines())
+        return "\n".join(happening.world.lines_without_points())
     premises = [] if command == "events" else [premises_line(happening.world)]
     points = [] if command == "audit" else [points_told(happening.world)]
     return "\n".join([*happening.told, *premises, *points])
@@ -169,6 +173,15 @@ def bytes_told(command, part, text, names):
     return told_text(part, data) if command == "decode" else "\n".join(exact_lines(part, data))
 
 
+def generated_told(words):
+    """How many lines a generated script has, its length and its digest, and some of its lines."""
+    number, *places = map(int, words.split())
+    script = generated_script(number)
+    lines = script.splitlines()
+    digest = hashlib.sha256(script.encode()).hexdigest()
+    return "\n".join([f"{len(lines)} lines, {len(script)} {digest}", *(f"{at} {lines[at - 1]}" for at in places)])
+
+
 def answer(command, words, text, names):
     """The answer of a case. Raises NotKnown where the model has none: it does not know the command, or what it asks."""
     data = text.encode()
@@ -183,6 +196,8 @@ def answer(command, words, text, names):
         return {"letters": letters_told, "injected": injected_told, "order": points_told}[command](world)
     if command in ("events", "listed", "audit", "ordered"):
         return events_told(command, words, text, names)
+    if command == "generated":
+        return generated_told(words)
     if command in ("decode", "exact", "changes"):
         return bytes_told(command, words, text, names)
     if command == "digest":

@@ -4,8 +4,8 @@ from typing import NamedTuple, Optional
 
 from model.classes import classify, trimmed
 from model.values import (
-    LAST_ROUND, METHOD, NOT_CURRENT, Already, Body, Done, Letter, Mended, ObjectSet, Party, Refusal, Reply, Request,
-    Sealed, Told)
+    COPY, LAST_ROUND, METHOD, MOST_SETS, NEEDED, NEEDS, NOT_CURRENT, Already, Body, Done, Letter, Mended, ObjectSet,
+    Party, Refusal, Reply, Request, Sealed, Told)
 
 WORD_64 = (1 << 64) - 1
 WORD_32 = (1 << 32) - 1
@@ -59,15 +59,16 @@ class Client:
     """A client. Each call gives the letters that it sends; `ended` says whether it ended the operation, and how.
 
     A place is a pair of an object and a replica. `entries` has the newest Entry of each place, `left_out` those that
-    this operation's sets do not hold any more, `sent` those of this round's sets by place. `operation` is the Body of
-    the operation under way, or None; `rest` is how many ticks of a rest are left; `request` is the round's request.
-    `asked` has the replicas to which it went, and `counted` the first reply of each replica to it.
+    this operation's sets do not hold any more, `sent` those of this round's sets by place, and `added` the objects that
+    this operation's sets show beside its own. `operation` is the Body of the operation under way, or None; `rest` is
+    how many ticks of a rest are left; `request` is the round's request. `asked` has the replicas to which it went, and
+    `counted` the first reply of each replica to it.
     """
 
     def __init__(self, number, keys, bounds, seed):
         self.me, self.keys, self.bounds = number, keys, bounds
         self.party, self.backoff = Party("c", number), Backoff(seed, number)
-        self.entries, self.left_out = {}, set()
+        self.entries, self.left_out, self.added = {}, set(), set()
         self.number = self.round = self.rest = 0
         self.operation = self.request = self.ended = None
         self.sent, self.asked, self.counted = {}, set(), {}
@@ -76,6 +77,7 @@ class Client:
         """Begins an operation of a client that has none."""
         self.ended = None
         self.left_out.clear()
+        self.added.clear()
         self.number += 1
         self.round, self.operation = 1, body
         return self.begin_round()
@@ -124,21 +126,38 @@ class Client:
                 if place[0] == target and entry not in self.left_out}
 
     def begin_round(self):
-        target = self.operation.parts[0].object
-        self.sent = self.kept(target)
-        entries = tuple(entry.sealed for entry in self.sent.values())
-        if self.round % 2 == 1:
-            entries = trimmed(entries, self.bounds)
-            self.sent = {place: entry for place, entry in self.sent.items() if entry.sealed in entries}
-        body, replicas = self.operation, range(self.bounds.replicas)
-        if len(entries) >= self.bounds.quorum:
-            if classify(entries, self.bounds).code == METHOD:
-                replicas = self.preferred(target)
+        sets = self.shown()
+        objects, body, replicas = self.operation.objects, self.operation, range(self.bounds.replicas)
+        if all(len(entries) >= self.bounds.quorum for entries in sets.values()):
+            classes = {known: classify(sets, known, self.bounds).code for known in sets}
+            needed = [classify(sets, known, self.bounds).needed for known in sets if classes[known] == NEEDS]
+            if needed and len(sets) < MOST_SETS:
+                self.added.add(needed[0])
+                return self.begin_round()
+            if all(classes[known] == METHOD for known in objects):
+                replicas = self.preferred(objects[0])
             else:
-                body = Body("mend", target=target)
-        self.request = Request(self.me, self.number, self.round, (ObjectSet(target, entries),), body)
+                body = Body("mend", target=self.target(classes))
+        shown = tuple(ObjectSet(known, entries) for known, entries in sets.items())
+        self.request = Request(self.me, self.number, self.round, shown, body)
         self.asked, self.counted = set(), {}
         return self.ask(replicas)
+
+    def shown(self):
+        """The entries of the round's sets by object: those that are named, rising, in odd rounds trimmed."""
+        sets, self.sent = {}, {}
+        for known in sorted({*self.operation.objects, *self.added}):
+            kept = self.kept(known)
+            entries = tuple(entry.sealed for entry in kept.values())
+            sets[known] = trimmed(entries, self.bounds) if self.round % 2 == 1 else entries
+            self.sent |= {place: entry for place, entry in kept.items() if entry.sealed in sets[known]}
+        return sets
+
+    @staticmethod
+    def target(classes):
+        """The object that is mended, by the classes of those that are named: copies come last."""
+        first = [known for known, code in classes.items() if code not in (METHOD, COPY)]
+        return first[0] if first else [known for known, code in classes.items() if code == COPY][0]
 
     def preferred(self, target):
         """The replicas that are asked first for an object."""
@@ -160,6 +179,7 @@ class Client:
 
     def end_round(self):
         self.leave_out()
+        self.add_needed()
         if self.round == LAST_ROUND:
             return self.end(None)
         verdicts = [reply.verdict for reply in self.counted.values()]
@@ -177,6 +197,15 @@ class Client:
             if entry is not None and entry is self.entries[place]:
                 if len(self.kept(place[0])) - 1 >= self.bounds.quorum:
                     self.left_out.add(entry)
+
+    def add_needed(self):
+        """Adds the objects of which enough replies say that they have to be shown, lower ones first."""
+        needed = Counter(reply.verdict.object for reply in self.counted.values()
+                         if isinstance(reply.verdict, Refusal) and reply.verdict.number == NEEDED)
+        for known in sorted(needed):
+            named = {*self.operation.objects, *self.added}
+            if needed[known] > self.bounds.faults and len(named) < MOST_SETS:
+                self.added.add(known)
 
     def end(self, answer):
         self.operation, self.ended = None, Ended(answer)

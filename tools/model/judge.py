@@ -35,8 +35,10 @@ class Judge:
         """Points of operations that have another answer than the machine gives along the order."""
         values = [FRESH[kind] for kind in self.kinds]
         for at, point in enumerate(self.points):
-            known = point.body.parts[0].object
-            values[known], answer = performed(self.kinds[known], values[known], point.body)
+            objects = point.body.objects
+            changed, answer = performed([(self.kinds[known], values[known]) for known in objects], point.body)
+            for known, value in zip(objects, changed, strict=True):
+                values[known] = value
             ends = map(self.end_of, self.operations_at(point))
             if any(end is not None and end.answer != answer for end in ends):
                 yield at

@@ -22,15 +22,19 @@ def refuse_where(condition, number):
         raise Refused(number)
 
 
-def performed(kind, value, body):
-    """The value behind the one part of an operation, and the answer; a refused part leaves the value as it is."""
-    (part,) = body.parts
-    try:
-        refuse_where({**METHODS, **ASKS}[part.method] != kind, WRONG_KIND)
-        changed, item = {COUNTER: count, BLOB: write, DIR: keep}[kind](value, part.method, *part.arguments)
-    except Refused as refused:
-        return value, RefusedPart(0, refused.args[0])
-    return changed, Items((item,))
+def performed(before, body):
+    """The values behind an operation and the answer, where `before` has the kind and the value of the object of each
+    part. No part sees what another one changed, and where one is refused, all values stay as they are."""
+    changed, items = [], []
+    for position, (part, (kind, value)) in enumerate(zip(body.parts, before, strict=True)):
+        try:
+            refuse_where({**METHODS, **ASKS}[part.method] != kind, WRONG_KIND)
+            after, item = {COUNTER: count, BLOB: write, DIR: keep}[kind](value, part.method, *part.arguments)
+        except Refused as refused:
+            return [value for _, value in before], RefusedPart(position, refused.args[0])
+        changed.append(after)
+        items.append(item)
+    return changed, Items(tuple(items))
 
 
 # ---- each kind: the value behind a part, and the item that it tells; each raises Refused where the part is refused

@@ -4,7 +4,7 @@ from typing import NamedTuple, Optional
 from model.client import FITTING
 from model.listed_frames import counted, listed_frame, listed_party
 from model.reading import decode
-from model.report import answer_words, operation_words
+from model.report import answer_words, operation_words, point_words
 from model.values import Fetch, Fetched, Reply, sender_of
 from model.world import World
 from model.writing import write_state
@@ -157,8 +157,22 @@ class ListedWorld(World):
 
     # ---- the listing
 
+    def point_lines(self, below):
+        """Adds the points to the lines below their events, where the premises hold."""
+        for point in self.points_in_order() if self.audit.forged is None else ():
+            below[point.event - 1].append(f"  {point_words(point)}")
+
     def lines(self):
+        """The lines of all events, with their points and letters."""
         below = [[] for _ in self.told]
+        self.point_lines(below)
+        return self.lines_with(below)
+
+    def lines_without_points(self):
+        return self.lines_with([[] for _ in self.told])
+
+    def lines_with(self, below):
+        """The lines of all events, each with these lines and its letters below it."""
         for number, (event, letter) in enumerate(self.letters, 1):
             frame = decode(letter.text)
             words = listed_frame(frame) if frame else "no frame"

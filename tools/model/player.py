@@ -9,14 +9,15 @@ FAR = Candidate(Stamp(LAST_TIME, 0, 1, b"", b"\xff" * 32), OPENING)
 
 
 def run_of(data, world_kind=World):
-    """The world behind the run of a script. Raises Refused, with a line, where the script or one of its events is."""
+    """The world behind the run of a script. Raises Refused, with a line, where the script or one of its events is, and
+    with the world before it where an event is."""
     script = read_script(data)
     player = Player(world_kind(script.setup))
     for line in script.lines:
         try:
             player.play(line.word, line.needs)
         except Refused as refused:
-            raise Refused(refused.kind, line.number) from None
+            raise Refused(refused.kind, line.number, player.world) from None
     return player.world
 
 

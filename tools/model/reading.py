@@ -1,14 +1,11 @@
 """Reads bytes: `decode` gives a frame, or None where the bytes are none; what begins with `read_` tells by Unread which
-field fails, and how.
-
-Bodies of one part are read, and no others.
-"""
+field fails, and how."""
 from model.kinds import is_good_name
 from model.values import (
     BLOB, COUNTER, DIGEST_SIZE, DIR, INLINE_METHOD, LAST_ROUND, LAST_TIME, MOST_CANDIDATES, MOST_CONTENT, MOST_ENTRIES,
-    NEEDS, NO_DIGEST, NOT_CURRENT, NOT_METHOD, OPENING, REFUSALS, SPENT, WRONG_KIND, Already, Body, Candidate, Done,
-    Fetch, Fetched, History, Items, KeptRow, Mended, ObjectSet, Part, Refusal, RefusedPart, Reply, Request, Sealed,
-    Stamp, State, Told)
+    MOST_PARTS, MOST_SETS, NEEDS, NO_DIGEST, NOT_CURRENT, NOT_METHOD, OPENING, REFUSALS, SPENT, WRONG_KIND, Already,
+    Body, Candidate, Done, Fetch, Fetched, History, Items, KeptRow, Mended, ObjectSet, Part, Refusal, RefusedPart,
+    Reply, Request, Sealed, Stamp, State, Told)
 from model.writing import (
     ASK_CODES, BYTES_CODE, FETCH_KIND, FETCHED_KIND, KIND_CODES, LISTING_CODE, METHOD_CODES, NUMBER_CODE, REPLY_KIND,
     REQUEST_KIND, VERSION)
@@ -19,7 +16,7 @@ LAST_CLIENT, LAST_REPLICA, LAST_OBJECT = 64, 15, 63
 REPLICA_COUNTS = (6, 11, 16)
 # How many pairs a group may have.
 GROUP_SIZES = (0, 2, 3, 4)
-MOST_ROWS, MOST_LINKS, MOST_ITEMS, MOST_CULLED, MOST_SETS = 64, 64, 4, 128, 8
+MOST_ROWS, MOST_LINKS, MOST_CULLED = 64, 64, 128
 # The numbers of refusals that an answer may carry.
 ANSWER_REFUSALS = (*range(3, 10), WRONG_KIND)
 METHODS = {code: method for method, code in METHOD_CODES.items()}
@@ -212,7 +209,7 @@ ARGUMENT_READERS = {
 def read_parts(reader, known, methods):
     """Parts on known objects, objects rising, each with one of these methods by its code."""
     parts = []
-    for _ in range(reader.u8(1, 1)):
+    for _ in range(reader.u8(1, MOST_PARTS)):
         object_number = reader.object(known, parts[-1].object if parts else -1)
         method = methods[reader.one_of(methods)]
         parts.append(Part(object_number, method, tuple(read(reader) for read in ARGUMENT_READERS[method])))
@@ -238,8 +235,8 @@ def read_item(reader):
 
 def read_answer(reader):
     if reader.u8(0, 1) == 0:
-        return Items(tuple(read_item(reader) for _ in range(reader.u8(1, MOST_ITEMS))))
-    return RefusedPart(reader.u8(0, MOST_ITEMS - 1), reader.one_of(ANSWER_REFUSALS))
+        return Items(tuple(read_item(reader) for _ in range(reader.u8(1, MOST_PARTS))))
+    return RefusedPart(reader.u8(0, MOST_PARTS - 1), reader.one_of(ANSWER_REFUSALS))
 
 
 def read_directory(reader):
@@ -266,7 +263,7 @@ def read_state(reader):
 def read_stamps(reader):
     """Pairs of an object and a stamp, objects rising."""
     stamps = []
-    for _ in range(reader.u8(1, MOST_ITEMS)):
+    for _ in range(reader.u8(1, MOST_PARTS)):
         stamps.append((reader.object(above=stamps[-1][0] if stamps else -1), read_stamp(reader)))
     return tuple(stamps)
 

@@ -1,11 +1,11 @@
 """A correct replica: what it makes of the bytes that reach it."""
-from typing import NamedTuple
+from typing import NamedTuple, Optional
 
-from model.classes import classify
 from model.keys import act_digest, sets_digest
 from model.kinds import FRESH, performed
+from model.plans import Plans
 from model.values import (
-    BARRIER, COPY, HISTORY_FULL, INLINE_BARRIER, INLINE_METHOD, LAST_TIME, METHOD, MOST_CANDIDATES, NOT_CURRENT,
+    BARRIER, COPY, HISTORY_FULL, INLINE_BARRIER, INLINE_METHOD, LAST_TIME, METHOD, MOST_CANDIDATES, NEEDED, NOT_CURRENT,
     NOT_METHOD, OPENING, SOUND, SPENT, THIN, TIME_SPENT, UNKNOWN_OBJECT, Already, Candidate, Done, Fetch, Fetched,
     History, KeptRow, Letter, Mended, ObjectSet, Party, Refusal, Reply, Request, Stamp, State, Told)
 from model.writing import write_state
@@ -31,12 +31,42 @@ class Handled(NamedTuple):
     kept: tuple
 
 
-def behind_act(state, request, act):
-    """The state behind the act of a request, whose digest is `act`, and the answer."""
-    value, answer = performed(state.kind, state.value, request.body)
-    kept = dict(state.kept)
-    kept[request.client] = KeptRow(request.number, act, answer)
-    return State(state.kind, value, tuple(sorted(kept.items())), state.links), answer
+class Given(NamedTuple):
+    """What the sets of a request tell once they are culled: the entries of each object that is shown, their digest, and
+    what the plans of copies are."""
+
+    request: Request
+    sets: dict
+    digest: bytes
+    plans: Plans
+
+
+class Addition(NamedTuple):
+    """A candidate that is added on an object; whether it is made there or was found in the sets; and the stamp of the
+    version that it takes, or None where it is a barrier."""
+
+    object: int
+    candidate: Candidate
+    is_fresh: bool
+    wanted: Optional[Stamp]
+
+
+def grouped(candidates):
+    """Candidates by object, each with the group of all of them, where there are two or more."""
+    group = tuple((known, candidate.stamp.time) for known, candidate in candidates.items())
+    if len(group) < 2:
+        return candidates
+    return {known: candidate._replace(group=group) for known, candidate in candidates.items()}
+
+
+def linked(state, known, candidate):
+    """A state with links to the other objects of a candidate's group."""
+    return state.linked(candidate.stamp, [other for other, _ in candidate.group if other != known])
+
+
+def keeps(row, number, act):
+    """Whether a kept row is of exactly this act."""
+    return row is not None and (row.number, row.act) == (number, act)
 
 
 class Replica:
@@ -133,93 +163,150 @@ class Replica:
         thin = [part.object for part in kept if len(part.entries) < self.bounds.quorum]
         if thin:
             return Refusal(THIN, thin[0])
-        target = request.body.target if request.body.kind == "mend" else request.body.parts[0].object
-        (entries,) = (part.entries for part in kept if part.object == target)
-        classified, sets = classify(entries, self.bounds), sets_digest(kept)
-        if request.body.kind == "mend":
-            return self.decide_mend(request.client, target, classified, sets)
-        if request.body.kind == "act":
-            return self.decide_act(request, target, classified, sets)
-        return self.decide_query(request, target, classified)
+        sets = {part.object: part.entries for part in kept}
+        given = Given(request, sets, sets_digest(kept), Plans(sets, self.bounds))
+        decided = {"act": self.decide_act, "query": self.decide_query, "mend": self.decide_mend}
+        return decided[request.body.kind](given)
 
-    def decide_query(self, request, target, classified):
-        barred = self.barred(target, classified)
+    def priors(self, given):
+        """The stamps on which an operation rests, by its objects."""
+        classes = given.plans.classes
+        return {known: classes[known].object_candidate.stamp for known in given.request.body.objects}
+
+    def decide_query(self, given):
+        priors = self.priors(given)
+        barred = self.barred(given, priors)
         if barred:
             return barred
-        prior = classified.object_candidate.stamp
-        state = self.versions[target, prior]
-        return Told(((target, prior),), performed(state.kind, state.value, request.body)[1])
+        return Told(tuple(priors.items()), performed(self.values_at(priors), given.request.body)[1])
 
-    def decide_act(self, request, target, classified, sets):
-        client, number, prior = request.client, request.number, classified.object_candidate.stamp
-        act = act_digest(client, number, request.body)
-        fresh = Candidate(Stamp(classified.latest.time + 1, 0, client, act, sets), prior)
-        if classified.code == METHOD and self.holds(target, fresh):
-            row = self.versions[target, fresh.stamp].row(client)
-            if row is not None and (row.number, row.act) == (number, act):
-                return Done(((target, fresh.stamp),), row.answer)
-        barred = self.barred(target, classified)
+    def decide_act(self, given):
+        request, classes, priors = given.request, given.plans.classes, self.priors(given)
+        client, number, act = request.client, request.number, act_digest(request.client, request.number, request.body)
+        fresh = grouped({known: Candidate(Stamp(classes[known].latest.time + 1, 0, client, act, given.digest), prior)
+                         for known, prior in priors.items()})
+        stamps = tuple((known, candidate.stamp) for known, candidate in fresh.items())
+        if all(classes[known].code == METHOD and self.holds(known, fresh[known]) for known in fresh):
+            rows = [self.versions[version].row(client) for version in stamps]
+            if all(keeps(row, number, act) for row in rows):
+                return Done(stamps, rows[0].answer)
+        barred = self.barred(given, priors)
         if barred:
             return barred
-        state = self.versions[target, prior]
-        row = state.row(client)
-        if row is not None and (row.number, row.act) == (number, act):
-            return Already(row.answer)
-        if row is not None and row.number >= number:
-            return Refusal(SPENT, target, row.number)
-        if classified.latest.time == LAST_TIME:
-            return Refusal(TIME_SPENT, target)
-        if self.is_full(target):
-            return Refusal(HISTORY_FULL, target)
-        version, answer = behind_act(state, request, act)
-        self.accept(target, fresh, version)
-        return Done(((target, fresh.stamp),), answer)
+        rows = {known: self.versions[known, prior].row(client) for known, prior in priors.items()}
+        if all(keeps(row, number, act) for row in rows.values()):
+            return Already(next(iter(rows.values())).answer)
+        for known, row in rows.items():
+            if row is not None and row.number >= number:
+                return Refusal(SPENT, known, row.number)
+        return self.without_room(fresh, priors, classes) or self.perform(given, priors, fresh, act)
 
-    def barred(self, target, classified):
-        """What keeps an operation from its object: a Refusal, or the version that is Missing, or None."""
-        own, prior = self.histories[target].latest, classified.object_candidate.stamp
-        if own > classified.latest:
-            return Refusal(NOT_CURRENT, target, own)
-        if classified.code != METHOD:
-            return Refusal(NOT_METHOD, target, classified.code)
-        return None if (target, prior) in self.versions else Missing(((target, prior),))
+    def perform(self, given, priors, fresh, act):
+        """Performs an act whose candidates may be added."""
+        client, number = given.request.client, given.request.number
+        values, answer = performed(self.values_at(priors), given.request.body)
+        for (known, candidate), value in zip(fresh.items(), values, strict=True):
+            before = self.versions[known, priors[known]]
+            kept = {**dict(before.kept), client: KeptRow(number, act, answer)}
+            after = before._replace(value=value, kept=tuple(sorted(kept.items())))
+            self.accept(known, candidate, linked(after, known, candidate))
+        return Done(tuple((known, candidate.stamp) for known, candidate in fresh.items()), answer)
 
-    def decide_mend(self, client, target, classified, sets):
-        own, (added, wanted) = self.histories[target].latest, self.to_add(client, classified, sets)
-        if added is not None and self.holds(target, added):
-            return Mended(target, added.stamp)
-        if own > classified.latest or (added is not None and added.stamp <= own):
-            return Refusal(NOT_CURRENT, target, own)
-        if added is None:
-            return Refusal(SOUND, target)
-        if wanted is not None and (target, wanted) not in self.versions:
-            return Missing(((target, wanted),))
-        if classified.code in (COPY, BARRIER) and classified.latest.time == LAST_TIME:
-            return Refusal(TIME_SPENT, target)
-        if self.is_full(target):
-            return Refusal(HISTORY_FULL, target)
-        self.accept(target, added, self.versions.get((target, wanted)))
-        return Mended(target, added.stamp)
+    def values_at(self, stamps):
+        """The kinds and the values of objects at these stamps."""
+        return [(self.kinds[known], self.versions[known, stamp].value) for known, stamp in stamps.items()]
 
-    @staticmethod
-    def to_add(client, classified, sets):
-        """The candidate that mends an object of this class, or None, and the stamp of the version that it takes."""
-        prior, time = classified.object_candidate.stamp, classified.latest.time + 1
-        return {
-            METHOD: (None, None),
-            INLINE_METHOD: (classified.object_candidate, prior),
-            INLINE_BARRIER: (classified.barrier_candidate, None),
-            COPY: (Candidate(Stamp(time, 0, client, b"", sets), prior), prior),
-            BARRIER: (Candidate(Stamp(time, 1, client, b"", sets), prior), None),
-        }[classified.code]
+    def barred(self, given, priors):
+        """What keeps an operation from its objects: a Refusal, or the versions that are Missing, or None."""
+        classes = given.plans.classes
+        for known in priors:
+            if self.histories[known].latest > classes[known].latest:
+                return Refusal(NOT_CURRENT, known, self.histories[known].latest)
+        for known in priors:
+            if classes[known].code != METHOD:
+                return Refusal(NOT_METHOD, known, classes[known].code)
+        return self.lacking(priors.items())
+
+    def lacking(self, versions):
+        """The versions of these that are Missing, or None."""
+        missing = tuple(version for version in versions if version not in self.versions)
+        return Missing(missing) if missing else None
+
+    def without_room(self, added, fresh, classes):
+        """The refusal of candidates whose objects have no time or no room for them, or None; `fresh` has the objects
+        on which candidates are made."""
+        spent = [known for known in fresh if classes[known].latest.time == LAST_TIME]
+        full = [known for known in added if len(self.histories[known].candidates) >= MOST_CANDIDATES]
+        if spent:
+            return Refusal(TIME_SPENT, spent[0])
+        return Refusal(HISTORY_FULL, full[0]) if full else None
+
+    def decide_mend(self, given):
+        target, classes = given.request.body.target, given.plans.classes
+        added = self.to_add(given, target)
+        if isinstance(added, Refusal):
+            return added
+        stamps = {addition.object: addition.candidate.stamp for addition in added}
+        mended = Mended(target, stamps[target]) if added else None
+        if mended and all(self.holds(addition.object, addition.candidate) for addition in added):
+            return mended
+        late = self.late(classes, target, added)
+        if late:
+            return late
+        if not mended:
+            needed = classes[target].needed
+            return Refusal(SOUND, target) if needed is None else Refusal(NEEDED, needed)
+        wanted = [(addition.object, addition.wanted) for addition in added if addition.wanted is not None]
+        missing = self.lacking(wanted)
+        if missing:
+            return missing
+        fresh = [addition.object for addition in added if addition.is_fresh]
+        refused = self.without_room(stamps, fresh, classes)
+        if refused:
+            return refused
+        for addition in added:
+            self.accept(addition.object, addition.candidate, self.versions.get((addition.object, addition.wanted)))
+        return mended
+
+    def late(self, classes, target, added):
+        """The refusal where the replica has a later candidate of an object than the sets show, or than what would be
+        added; or None."""
+        candidates = {target: None, **{addition.object: addition.candidate for addition in added}}
+        for known, candidate in sorted(candidates.items()):
+            own = self.histories[known].latest
+            if own > classes[known].latest or (candidate is not None and candidate.stamp <= own):
+                return Refusal(NOT_CURRENT, known, own)
+        return None
+
+    def to_add(self, given, target):
+        """The additions, objects rising, that mend a target; none where there is nothing to mend, or an object has to
+        be shown first. A Refusal, where a copy has no plan."""
+        found, classes = given.plans.classes[target], given.plans.classes
+        if found.code == INLINE_METHOD:
+            objects = [known for known, _ in found.object_candidate.group] or [target]
+            candidates = [(known, classes[known].object_candidate) for known in objects]
+            return [Addition(known, candidate, False, candidate.stamp) for known, candidate in candidates]
+        if found.code == INLINE_BARRIER:
+            return [Addition(target, found.barrier_candidate, False, None)]
+        if found.code == BARRIER:
+            stamp = Stamp(found.latest.time + 1, 1, given.request.client, b"", given.digest)
+            return [Addition(target, Candidate(stamp, found.object_candidate.stamp), True, None)]
+        return self.to_copy(given, target) if found.code == COPY else []
+
+    def to_copy(self, given, target):
+        """The additions that copy a target, or the Refusal of its plan."""
+        plan = given.plans.plan(target)
+        if isinstance(plan, Refusal):
+            return plan
+        times = {known: given.plans.classes[known].latest.time + 1 for known, _ in plan}
+        stamps = {known: Stamp(time, 0, given.request.client, b"", given.digest) for known, time in times.items()}
+        copies = grouped({known: Candidate(stamps[known], chosen.stamp) for known, chosen in plan})
+        return [Addition(known, candidate, True, candidate.prior) for known, candidate in copies.items()]
 
     # ---- what the replica has
 
     def holds(self, target, candidate):
         return candidate in self.histories[target].candidates
-
-    def is_full(self, target):
-        return len(self.histories[target].candidates) >= MOST_CANDIDATES
 
     def accept(self, target, candidate, version):
         """Adds a candidate to the history, and its version, if there is one, to those that are kept."""

@@ -51,6 +51,11 @@ def premises_line(world):
     return "premises hold" if forged is None else f"premises forged {forged}"
 
 
+def point_words(point):
+    """A point, with the update where its client is faulty."""
+    return f"point {point.name}" + (f" faulty {operation_words(point.body)}" if point.faulty else "")
+
+
 def timeline(world):
     """The calls, points and ends of a run by event; at one event, calls stand first and ends last."""
     told = []
@@ -62,8 +67,7 @@ def timeline(world):
             line = f"gaveup {name}" if end.answer is None else f"reply {name} {answer_words(end.answer)}"
             told.append((end.event, 2, len(told), line))
     for point in world.points_in_order() if world.audit.forged is None else ():
-        asked = f" faulty {operation_words(point.body)}" if point.faulty else ""
-        told.append((point.event, 1, len(told), f"point {point.name}{asked}"))
+        told.append((point.event, 1, len(told), point_words(point)))
     return [line for *_, line in sorted(told)]
 
 

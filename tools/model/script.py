@@ -4,7 +4,7 @@ from typing import NamedTuple
 
 from model.kinds import ASKS
 from model.values import (
-    BLOB, COUNTER, DIR, LAST_VALUE, MOST_CONTENT, MOST_NAME, PLAIN_BYTES, Body, Bounds, Part, Party)
+    BLOB, COUNTER, DIR, LAST_VALUE, MOST_CONTENT, MOST_NAME, MOST_PARTS, PLAIN_BYTES, Body, Bounds, Part, Party)
 from model.world import MOST_EVENTS, Refused, Setup
 
 MOST_BYTES = 1 << 24
@@ -234,12 +234,22 @@ class LineReader:
 
     def read_call(self, words):
         """A client, and the body of its operation."""
-        client, method = self.correct(self.client(words.next())), words.of_part()
+        client, parts = self.correct(self.client(words.next())), []
+        self.read_part(words, parts)
+        while words:
+            need(words.next() == "+" and len(parts) < MOST_PARTS, "wrong count")
+            self.read_part(words, parts)
+        return client, Body("query" if parts[0].method in ASKS else "act", tuple(parts))
+
+    def read_part(self, words, before):
+        """Adds a part to those before it: updates stand behind updates, queries behind queries, and objects rise."""
+        method = words.of_part()
         need(method in ARGUMENTS, "unknown word")
+        need(all((method in ASKS) == (part.method in ASKS) for part in before), "out of order")
         known = number_of(words.of_part(), 0, MOST_OBJECTS - 1)
         need(known < len(self.kinds), "no such object")
-        arguments = tuple(read(words.of_part()) for read in ARGUMENTS[method])
-        return client, Body("query" if method in ASKS else "act", (Part(known, method, arguments),))
+        need(all(part.object < known for part in before), "out of order")
+        before.append(Part(known, method, tuple(read(words.of_part()) for read in ARGUMENTS[method])))
 
     def read_deliver(self, words):
         """The numbers of letters."""

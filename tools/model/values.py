@@ -8,6 +8,8 @@ from typing import NamedTuple, Optional
 LAST_TIME = 1 << 62
 LAST_VALUE = (1 << 64) - 1
 MOST_CANDIDATES = 1024
+# The parts of an operation, and the objects of the sets of a request, at most.
+MOST_PARTS, MOST_SETS = 4, 8
 LAST_ROUND = 64
 # The bytes that stand for themselves where names are written.
 PLAIN_BYTES = frozenset(b"ABCDEFGHIJKLMNOPQRSTUVWXYZabcdefghijklmnopqrstuvwxyz0123456789._-")
@@ -67,6 +69,10 @@ class Candidate(NamedTuple):
     stamp: Stamp
     prior: Stamp
     group: tuple = ()
+
+    def member(self, object_number):
+        """The stamp of the candidate of its group on an object that the group lists."""
+        return self.stamp._replace(time=dict(self.group)[object_number])
 
 
 OPENING = Stamp(0, 0, 0, b"", NO_DIGEST)
@@ -141,6 +147,10 @@ class State(NamedTuple):
         """The kept row of a client, or None."""
         return dict(self.kept).get(client)
 
+    def linked(self, stamp, others):
+        """The same state with links to these objects, as the version with this stamp has them."""
+        return self._replace(links=tuple(sorted({**dict(self.links), **dict.fromkeys(others, stamp)}.items())))
+
 
 class Part(NamedTuple):
     """A part of an operation: the object, what is asked of it, and what this needs: a number, bytes, a name."""
@@ -156,6 +166,11 @@ class Body(NamedTuple):
     kind: str
     parts: tuple = ()
     target: Optional[int] = None
+
+    @property
+    def objects(self):
+        """The objects of its parts, rising."""
+        return [part.object for part in self.parts]
 
 
 @dataclass(frozen=True)

@@ -15,11 +15,12 @@ MOST_BYTES = 1 << 31
 
 
 class Refused(Exception):
-    """A script or an event is refused: the kind, and the line of the script, or 0 where it is not known yet."""
+    """A script or an event is refused: the kind, the line of the script, or 0 where it is not known yet, and the world as
+    it is then, or None where nothing ran."""
 
-    def __init__(self, kind, line=0):
+    def __init__(self, kind, line=0, world=None):
         super().__init__(f"line {line}: {kind}")
-        self.kind, self.line = kind, line
+        self.kind, self.line, self.world = kind, line, world
 
 
 class Setup(NamedTuple):

@@ -57,6 +57,6 @@ def shown(run, cut, faulty):
 
 
 def line_of_event(run, event):
-    """The line of the listing that has this event: before it stand the events and the letters sent before."""
-    before = run.events[:event.number - 1]
-    return event.number + sum(len(each.sends) for each in before)
+    """The line of the listing that has this event: before it stand the events, points and letters before."""
+    letters = sum(len(each.sends) for each in run.events[:event.number - 1])
+    return event.number + letters + sum(point.event < event.number for point in run.points)

@@ -17,6 +17,7 @@ CALL = re.compile(rf"call (({NUM})\.{NUM}) ({OPERATION})")
 TICK = re.compile(rf"tick client ({NUM})")
 DELIVER = re.compile(rf"deliver ({NUM}) to ({PARTY})(, ignored)?")
 INJECT = re.compile(rf"inject ({count_of('byte')}) to ({PARTY})(?:, ignored| as ({PARTY}): (.+))")
+POINT = re.compile(rf"  point (({NUM})\.{NUM})( faulty {OPERATION})?")
 LETTER = re.compile(rf"  letter ({NUM}) ({PARTY}) to ({PARTY}): (.+)")
 REFUSED = re.compile(rf"line {NUM}: [a-z ]+")
 
@@ -78,12 +79,26 @@ class Event:
     sends: list = field(default_factory=list)
 
 
+@dataclass(frozen=True)
+class Point:
+    """An operation that takes effect, on the line of its client, at an event; `line` is its line of a report."""
+
+    operation: str
+    party: Party
+    faulty: bool
+    event: int
+    line: str
+
+
 @dataclass
 class Run:
-    """What a listing tells: events and letters by their numbers, which begin with 1."""
+    """What a listing tells: events and letters by their numbers, which begin with 1, the points in their order, and the
+    line of the script at which the run ended, if it is refused."""
 
     events: list = field(default_factory=list)
     letters: list = field(default_factory=list)
+    points: list = field(default_factory=list)
+    refused: str = ""
 
     def letter(self, number):
         return self.letters[number - 1]
@@ -108,15 +123,25 @@ def read_listing(data):
     lines before it."""
     run = Run()
     for number, line in lines_of(data):
+        if run.refused:
+            raise Malformed(number, "line behind the refusal")
         if line.startswith("event "):
             read_event(run, line, number)
         elif line.startswith("  letter "):
             read_letter(run, line, number)
-        elif number == 1 and REFUSED.fullmatch(line):
-            raise Malformed(1, f"refused script, which qu-letters answers by `{line}`")
+        elif line.startswith("  point "):
+            read_point(run, line, number)
         else:
-            raise Malformed(number, "unknown line")
+            read_refusal(run, line, number)
     return run
+
+
+def read_refusal(run, line, number):
+    if not REFUSED.fullmatch(line):
+        raise Malformed(number, "unknown line")
+    if number == 1:
+        raise Malformed(1, f"refused script, which qu-letters answers by `{line}`")
+    run.refused = line
 
 
 def lines_of(data):
@@ -182,6 +207,18 @@ def known_frame(words, number):
     if not frame:
         raise Malformed(number, "unknown frame")
     return frame
+
+
+def read_point(run, line, number):
+    found = POINT.fullmatch(line)
+    if not found:
+        raise Malformed(number, "unknown line")
+    if not run.events:
+        raise Malformed(number, "point before the first event")
+    if run.events[-1].sends:
+        raise Malformed(number, "point behind a letter")
+    client = Party("client", int(found.group(2)))
+    run.points.append(Point(found.group(1), client, bool(found.group(3)), run.events[-1].number, line.strip()))
 
 
 def read_letter(run, line, number):

@@ -10,22 +10,18 @@ ARROW_WORDS = {"ask": "a request", "answer": "a reply", "other": "another letter
 class Picture:
     """A run, what is shown of it, its faulty parties and points, and words beside some events."""
 
-    def __init__(self, run, shown, faulty=(), points=(), broken=None, title=""):
+    def __init__(self, run, shown, faulty=(), broken=None, title=""):
         self.run, self.shown, self.title = run, shown, title
         self.faulty = [party for party in shown.parties if party in faulty]
         self.broken = broken or {}
-        self.points = [point for point in points if point.party in shown.parties and self.is_seen(point)]
+        seen = {event.number for event in shown.events}
+        self.points = [point for point in run.points if point.party in shown.parties and point.event in seen]
         self.marks = {event.number: mark_of(event, run) for event in shown.events}
         self.words = {event.number: self.words_beside(event) for event in shown.events}
         self.labels = [label for event in shown.events for label in labels_of(event)]
         self.arrows = list(self.arrows_seen())
         self.legend = self.explained()
         self.layout = layout_of(shown, list(self.words.values()), self.label_texts(), self.legend_texts())
-
-    def is_seen(self, point):
-        """Whether a point, or a part of where it may stand, is within the events that are shown."""
-        events = self.shown.events
-        return bool(events) and point.first <= events[-1].number and point.last >= events[0].number
 
     def words_beside(self, event):
         note = self.broken.get(event.number)
@@ -77,5 +73,4 @@ def labels_of(event):
 
 
 def point_words(point):
-    words = f"point {point.operation}" + (" faulty" if point.faulty else "")
-    return words if point.first == point.last else f"{words} in here"
+    return f"point {point.operation}" + (" faulty" if point.faulty else "")

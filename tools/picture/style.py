@@ -27,7 +27,6 @@ text{{fill:{ink};stroke:{paper}}}
 .side-text{{fill:{side}}}
 .point{{fill:{point};stroke:{paper}}}
 .point-text{{fill:{point}}}
-.span{{stroke:{point}}}
 """
 SHAPED = """
 text{font:12px Arial,Helvetica,"Liberation Sans",sans-serif;paint-order:stroke;stroke-width:3px;stroke-linejoin:round}
@@ -52,7 +51,6 @@ text{font:12px Arial,Helvetica,"Liberation Sans",sans-serif;paint-order:stroke;s
 .answer-head,.hit{fill:none}
 .hit{stroke:none;stroke-width:9;pointer-events:stroke}
 .hit:hover+.arrow{stroke-width:3}
-.span{fill:none;stroke-width:2}
 """
 
 # The heads of the arrows: shape, and the place in it that lies at the arrow's end.

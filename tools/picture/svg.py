@@ -139,19 +139,11 @@ def row(picture, event):
 
 
 def points(picture):
-    """The points on their clients' lines. Where one stands is known, or a bracket shows between which events; brackets
-    of one line stand beside each other."""
-    layout, brackets = picture.layout, {}
+    """The points on their clients' lines."""
     for point in picture.points:
-        at, first, last = layout.lanes[point.party], layout.down(point.first), layout.down(point.last)
-        aside = 0
-        if point.first == point.last:
-            yield f'<use href="#qu-point" x="{at}" y="{first}"/>'
-        else:
-            aside = brackets[point.party] = brackets.get(point.party, -1) + 1
-            at -= 5 * aside
-            yield f'<path class="span" d="M{at - 4} {first}H{at - 9}V{last}H{at - 4}"/>'
-        yield label(at - 13, (first + last) // 2 + 14 * aside, point_words(point), "label point-text right")
+        at, down = picture.layout.lanes[point.party], picture.layout.down(point.event)
+        told = label(at - 13, down, point_words(point), "label point-text right")
+        yield f'<g><title>{escape(point.line)}</title><use href="#qu-point" x="{at}" y="{down}"/>{told}</g>'
 
 
 def label(at, down, text, kind):

@@ -17,7 +17,8 @@ from model.world import Refused
 
 EXAMPLES = os.path.join(os.path.dirname(TOOLS), "examples")
 # Topics that take a second or so each.
-TOPICS = ("whole", "client", "fetching", "repairs", "kinds", "bad-scripts", "acts", "states", "verdicts", "frames")
+TOPICS = ("whole", "parts", "client", "fetching", "repairs", "kinds", "bad-scripts", "language", "generated", "acts",
+          "states", "verdicts", "frames")
 BUSY = b"bounds 1\nseed 7\nclients 1\nobject 0 counter\ncall 1 read 0\ncall 1 read 0\n"
 READ = BUSY[:-len(b"call 1 read 0\n")]
 
@@ -88,6 +89,14 @@ class Command(unittest.TestCase):
         words = [os.path.join(TOOLS, "answers"), "sim"]
         done = subprocess.run(words, input=BUSY, capture_output=True, check=False)
         self.assertEqual((3, b"", b"line 6: busy\n"), (done.returncode, done.stdout, done.stderr))
+
+    def test_where_nobody_reads(self):
+        reader, writer = os.pipe()
+        os.close(reader)
+        words = [os.path.join(TOOLS, "answers"), "letters"]
+        done = subprocess.run(words, input=READ, stdout=writer, stderr=subprocess.PIPE, check=False)
+        os.close(writer)
+        self.assertEqual((5, b""), (done.returncode, done.stderr))
 
     def test_lines_of_a_script(self):
         for word, first, count in (

@@ -62,10 +62,14 @@ WRONG = [
      "`red` behind `replica 0 request 1.1`: `round` or `act` or `ask` or `query` or `mend`"),
     ("client 1 to replica 0 request 1.1 ask add 0 5",
      "`add` behind `0 request 1.1 ask`: `read` or `cat` or `find` or `list`"),
-    ("client 1 to replica 0 request 1.1 act add 0 5 6", "`6` behind `act add 0 5`: `object`"),
+    ("client 1 to replica 0 request 1.1 act add 0 5 6", "`6` behind `act add 0 5`: `+` or `object`"),
+    ("client 1 to replica 0 request 1.1 act add 0 5 + read 1",
+     "`read` behind `add 0 5 +`: `add` or `take` or `put` or `append` or `link` or `unlink`"),
+    ("client 1 to replica 0 request 1.1 act add 0 5 + add 0 5",
+     "these words make no frame that a party could read: Order at 30"),
     ("replica 1 to client 1 reply 1.1 done",
-     "no word behind `1 reply 1.1 done`: `bytes` or `listing` or `over` or `under` or `too long` or `exists` or "
-     "`missing` or `bad name` or `full` or `wrong kind` or a number (0 to 18446744073709551615)"),
+     "no word behind `1 reply 1.1 done`: `over` or `under` or `too long` or `exists` or `missing` or `bad name` or "
+     "`full` or `wrong kind` or `bytes` or `listing` or a number (0 to 18446744073709551615)"),
     ("replica 1 to client 1 reply 1.1 not of class METHOD 0 but odd",
      "`odd` behind `class METHOD 0 but`: `inline method` or `copy` or `inline barrier` or `barrier` or `needs`"),
     ("client 1 to replica 0 request 1.1 act add 0 5 object 1 shown by none",
@@ -110,12 +114,16 @@ def whole_stamp(stamp):
     return listed_stamp(stamp) + digests
 
 
-def whole_answer(answer):
-    """An answer with the word for what it is."""
-    if not isinstance(answer, Items) or isinstance(answer.items[0], int):
-        return answer_words(answer)
-    (item,) = answer.items
+def whole_item(item):
+    """An item with the word for what it is."""
+    if isinstance(item, int):
+        return str(item)
     return f"bytes {item_words(item)}" if isinstance(item, bytes) else f"listing {listing_words(item)}"
+
+
+def whole_answer(answer):
+    """An answer whose items have the words for what they are."""
+    return " + ".join(map(whole_item, answer.items)) if isinstance(answer, Items) else answer_words(answer)
 
 
 def shown_in(world):
@@ -143,7 +151,8 @@ def whole_words(number, letter, shown, acts):
         own = rf"\1 as replica {said.replica} in letter {number}"
         words = re.sub(r"(shows object \d+) with \d+ candidates?", own, words)
     elif isinstance(said, Fetched):
-        words = re.sub(r", \d+ clients?, \d+ links?\Z", kept_words(said.state, acts), words)
+        links = "".join(f", link {known} at {whole_stamp(stamp)}" for known, stamp in said.state.links)
+        words = re.sub(r", \d+ clients?, \d+ links?\Z", kept_words(said.state, acts) + links, words)
     elif isinstance(said, Request):
         words = re.sub(r", (act|query),", rf", \1 {operation_words(said.body)},", words)
         entries = [entry for part in said.sets for entry in part.entries]

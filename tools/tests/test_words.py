@@ -5,8 +5,8 @@ from lines import ASKED, DELIVERED, ENDED, OPENING, SHORT, THIN, reply, text_of
 from picture.cut import Cut, shown
 from picture.faults import Malformed, WrongWords
 from picture.listing import Party, read_listing
-from picture.points import points_of
-from picture.report import read_faulty, read_report
+from picture.parts import Picture
+from picture.report import read_broken, read_faulty
 from picture.words import mark_of, words_of
 
 INJECTED = "event 1 inject 54 bytes to replica 0 as client 1: request 1.1 round 1, act, object 0 shown by none"
@@ -24,17 +24,6 @@ ANSWERED = [
     ("thin 0, culled object 0 of replica 5", "refused", "thin 0, culls r5"),
     ("not of class METHOD 0 but inline barrier", "refused", "not of class METHOD 0 but inline barrier"),
 ]
-
-
-def update_run(*verdicts):
-    """A run in which replicas 0, 1, .. answer an update so, each at its event, which is the one behind the call's."""
-    lines = [OPENING]
-    lines += [f"  letter {number} client 1 to replica {number - 1}: request 1.1 round 1, act, object 0 shown by none"
-              for number in range(1, len(verdicts) + 1)]
-    for place, verdict in enumerate(verdicts):
-        lines.append(f"event {place + 2} deliver {place + 1} to replica {place}")
-        lines.append(reply(verdict, len(verdicts) + 1 + place, place))
-    return read_listing(text_of(*lines))
 
 
 class Words(unittest.TestCase):
@@ -173,51 +162,42 @@ class Cuts(unittest.TestCase):
 
 
 class Points(unittest.TestCase):
-    DONE = "done 5, object 0 at time 1 of client 1"
+    POINT, FAULTY = "  point 1.1", "  point 2.1 faulty add 0 7"
 
-    def points(self, run, *lines):
-        report = read_report(text_of(HEAD, *lines), "report", run)
-        return [(point.operation, point.first, point.last) for point in points_of(run, report)]
+    def run_with(self, *points):
+        return read_listing(text_of(*SHORT[:3], *points, *SHORT[3:]))
 
-    def update(self, *verdicts):
-        return self.points(update_run(*verdicts), "call 1.1 add 0 5", "point 1.1", "open 1.1", HOLD, END)
+    def test_a_point_stands_at_the_event_above_it(self):
+        points = [(point.operation, point.party, point.faulty, point.event)
+                  for point in self.run_with(self.FAULTY, self.POINT).points]
+        one, other = Party("client", 1), Party("client", 2)
+        self.assertEqual([("2.1", other, True, 2), ("1.1", one, False, 2)], points)
 
-    def test_an_update_takes_effect_where_the_fourth_replica_accepts(self):
-        self.assertEqual([("1.1", 5, 5)], self.update(*[self.DONE] * 5))
-        self.assertEqual([("1.1", 6, 6)], self.update("thin 0", *[self.DONE] * 4))
+    def test_a_report_tells_the_points_of_the_listing(self):
+        told = [HEAD, "call 1.1 add 0 5", "point 2.1 faulty add 0 7", "point 1.1", "gaveup 1.1", HOLD, END]
+        self.assertEqual({}, read_broken(text_of(*told), "report", self.run_with(self.FAULTY, self.POINT)))
+        for points in ([], [self.POINT], [self.POINT, self.FAULTY], [self.FAULTY.replace("7", "8"), self.POINT]):
+            with self.assertRaises(Malformed):
+                read_broken(text_of(*told), "report", self.run_with(*points))
 
-    def test_where_the_listing_does_not_show_the_event_it_is_between_its_neighbours(self):
-        self.assertEqual([("1.1", 2, 5)], self.update(*[self.DONE] * 3, "thin 0"))
-        self.assertEqual([("1.1", 2, 5)], self.update(self.DONE + ", culled object 0 of replica 5", *[self.DONE] * 3))
-        self.assertEqual([("1.1", 2, 6)], self.update(self.DONE, "mended 0 at barrier 2 of client 2", *[self.DONE] * 3))
-
-    def test_a_repair_before_the_update_leaves_its_event_known(self):
-        self.assertEqual([("1.1", 6, 6)], self.update("mended 0 at barrier 2 of client 2", *[self.DONE] * 4))
-
-    def test_a_query_takes_effect_at_the_first_answer_of_its_last_round(self):
-        lines = [OPENING.replace("add 0 5", "read 0"), ASKED.replace("act", "query"), DELIVERED,
-                 THIN.replace("thin 0", "told 0, object 0 at opening"), ENDED.replace("given up", "with 0")]
-        run = read_listing(text_of(*lines))
-        told = ["call 1.1 read 0", "point 1.1", "reply 1.1 0", HOLD, END]
-        self.assertEqual([("1.1", 2, 2)], self.points(run, *told))
-
-    def test_a_point_of_a_faulty_client_is_between_its_neighbours(self):
-        run = update_run(*[self.DONE] * 4)
-        self.assertEqual([("2.1", 2, 5)], self.points(run, "call 1.1 add 0 5", "point 2.1 faulty add 0 7", HOLD))
+    def test_a_point_is_drawn_where_its_event_is(self):
+        run = self.run_with(self.POINT)
+        for events, count in (((1, 3), 1), ((2, 2), 1), ((3, 3), 0), ((1, 1), 0)):
+            self.assertEqual(count, len(Picture(run, shown(run, Cut(events=events), set())).points))
 
     def test_a_premise_that_fails_is_told_of_its_events(self):
         run = read_listing(text_of(*SHORT))
         told = ["call 1.1 add 0 5", "gaveup 1.1"]
-        report = read_report(text_of(HEAD, *told, "premises collide 2 3"), "report", run)
-        self.assertEqual({2: "premises collide", 3: "premises collide"}, report.broken)
-        self.assertEqual({2: "premises forged"}, read_report(text_of(HEAD, *told, "premises forged 2"), "", run).broken)
+        broken = read_broken(text_of(HEAD, *told, "premises collide 2 3"), "report", run)
+        self.assertEqual({2: "premises collide", 3: "premises collide"}, broken)
+        self.assertEqual({2: "premises forged"}, read_broken(text_of(HEAD, *told, "premises forged 2"), "", run))
 
     def test_reports_that_are_malformed_or_of_another_run(self):
         run = read_listing(text_of(*SHORT))
         for number, lines in ((1, []), (1, ["bounds"]), (2, [HEAD, "call 1.1 add 0 6"]), (2, [HEAD, "hello"]),
                               (3, [HEAD, "call 1.1 add 0 5", "reply 1.1 5"]), (2, [HEAD, "call 1.1 add 0 5"])):
             with self.assertRaises(Malformed) as refused:
-                read_report(text_of(*lines), "name", run)
+                read_broken(text_of(*lines), "name", run)
             self.assertTrue(str(refused.exception).startswith(f"name: line {number}: "), str(refused.exception))
 
     def test_faulty_parties_of_a_script(self):

@@ -90,7 +90,7 @@ accepts_alike mid other new carried alike it = record {
       above = mends.above;
       whole = mends.whole;
       listed = mends.listed;
-      version = mends.version;
+      versions = mends.versions;
       remedy = mends.remedy;
       stored = alike.versions ∙ mends.stored;
     }

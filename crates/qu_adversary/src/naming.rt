@@ -4,7 +4,7 @@ use qu_base::{NoMemory, ReplicaId};
 use qu_history::{AddFail, History};
 use std::alloc::Global;
 
-/// The same history, as this replica's.
+/// This history, told as this replica's own.
 #[tactic(auto, using(qu_history::proofs::Rising::length_above_zero, crate::proofs::Named::begins_open))]
 pub fn in_name_of(alloc: Global, me: ReplicaId, history: &History) -> Result<History, NoMemory>
     ensures { IfOk result (λ named. named ≡ record history.now { replica = me }) }

@@ -115,7 +115,7 @@ impl<'a> Cursor<'a> {
         }
     }
 
-    /// The same place, from which to read ahead.
+    /// A cursor at this place, by which to read ahead.
     pub fn ahead(&self) -> Cursor<'a>
         ensures { result ≡ self.now }
     {

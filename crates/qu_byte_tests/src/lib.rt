@@ -5,6 +5,8 @@
 #[cfg(test)]
 mod base;
 #[cfg(test)]
+mod generator;
+#[cfg(test)]
 mod io;
 #[cfg(test)]
 mod pick;

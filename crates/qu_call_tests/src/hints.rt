@@ -26,7 +26,7 @@ fn hints(alloc: Global, script: &str, wanted: Option<&'static str>) -> Result<()
     }
 }
 
-/// The same of the line behind the setup.
+/// Whether a script whose setup is followed by this line is refused with this hint.
 fn line_hints(alloc: Global, line: &str, wanted: &'static str) -> Result<(), Fail> {
     let script = format!(in alloc; "{SETUP}{line}\n")?;
     hints(alloc, script.as_str(), Some(wanted))
@@ -82,7 +82,25 @@ fn what_the_run_refuses(rt: HostRuntime) -> Result<(), Fail> {
     line_hints(
         alloc,
         "deliver 1",
-        "line 5: letters have numbers from 1, in the order in which they were sent so far",
+        "line 5: there is no letter 1, 0 were sent so far; \
+        letters have numbers from 1, in the order in which they were sent",
+    )?;
+    line_hints(
+        alloc,
+        "call 1 read 0\ndeliver 1 0 9",
+        "line 6: there is no letter 0, 7 were sent so far; \
+        letters have numbers from 1, in the order in which they were sent",
+    )?;
+    line_hints(
+        alloc,
+        "call 1 read 0\ndeliver 7\n",
+        "line 6: there is no letter 7, 6 were sent so far; \
+        letters have numbers from 1, in the order in which they were sent",
+    )?;
+    line_hints(
+        alloc,
+        "call 1 read 0\ncall 1 read 0",
+        "line 6: the client has an operation under way",
     )?;
     hints(alloc, SETUP, None)
 }

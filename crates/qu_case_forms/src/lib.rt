@@ -1,5 +1,5 @@
-//! Stored cases: how they and their bytes are read, how what is read is told, and the answers of the cases of bytes,
-//! which need no run.
+//! Stored cases: how they and their bytes are read, how what is read is told, and the answers of the cases of bytes
+//! and of generated scripts, which need no run.
 //!
 //! No part of the product, and nothing is promised of it: the answers are compared with the stored ones.
 #![tactic(auto)]
@@ -9,6 +9,7 @@ mod case;
 mod changes;
 mod difference;
 mod forms;
+mod generated;
 mod names;
 mod no_answer;
 mod parts;
@@ -20,6 +21,7 @@ pub use answers::answer_bytes;
 pub use case::{Case, party};
 pub use difference::put_difference;
 pub use forms::{put_frame, put_hashed, put_outcome, put_party};
+pub use generated::answer_generated;
 pub use names::{Named, bytes_of, read_names};
 pub use no_answer::NoAnswer;
 pub use reading::one_frame;

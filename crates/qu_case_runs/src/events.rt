@@ -13,7 +13,7 @@ use qu_listing::events_text;
 use qu_objects::Outcome;
 use qu_script::{Line, Script};
 use qu_seal::KeyRing;
-use qu_trace::{Entry, Event, Trace};
+use qu_trace::{Entry, Event, Premises, Trace};
 use qu_world::World;
 use std::alloc::{AllocError, Global};
 
@@ -22,7 +22,7 @@ pub fn setup_and_lines(lines: &str) -> (&str, &str) {
     lines.split_once("\n\n").unwrap_or((lines, ""))
 }
 
-/// The run of the lines behind a setup, as `qu-letters` lists it.
+/// The run of the lines behind a setup, as `qu-letters` lists it, without points.
 pub fn listed(
     alloc: Global,
     names: &[Named],
@@ -39,7 +39,8 @@ pub fn listed(
         world_with(alloc, setup)?,
         &mut made,
     )?;
-    let text = events_text(alloc, &trace)?;
+    // Points are found by the crates above.
+    let text = events_text(alloc, &trace, &Premises::Hold, &[])?;
     put_whole(alloc, text.as_slice(), out)
 }
 

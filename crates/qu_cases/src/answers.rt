@@ -1,5 +1,5 @@
 use super::program::{self, Program};
-use qu_case_forms::{Case, Named, NoAnswer, answer_bytes, bytes_of};
+use qu_case_forms::{Case, Named, NoAnswer, answer_bytes, answer_generated, bytes_of};
 use qu_case_orders::answer_order;
 use qu_case_runs::answer_run;
 use std::alloc::Global;
@@ -32,6 +32,7 @@ fn answer_here(
         "qu-letters" => of_program(alloc, Program::QuLetters, case.words, case, out),
         "spelled" => of_bytes(alloc, names, case, out),
         "pieces" => program::pieces(alloc, case, out),
+        "generated" => answer_generated(alloc, case, out),
         "listed" | "letters" | "injected" => answer_run(alloc, names, case, out),
         "events" | "order" | "audit" | "ordered" => answer_order(alloc, names, case, out),
         _ => answer_bytes(alloc, names, case, out),

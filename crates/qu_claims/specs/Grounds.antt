@@ -1,5 +1,6 @@
 -- Why a replica accepts a candidate, and what an event of a world adds to a replica.
-use Rattle.std.specs.Prelude.{◌≡◌, ◌+◌, ◌≤◌, ℕ, Bool, true, false, List, [], ◌∷◌, ◌++◌, length, map, Option, None, Some}
+use Rattle.std.specs.Prelude.{◌≡◌, ◌+◌, ◌≤◌, ℕ, Bool, true, false, List, [], ◌∷◌, ◌++◌, length, map, Option, None, Some, IsTrue}
+use Rattle.std.specs.List.{flat_map}
 use Rattle.qu_base.specs.declared.party.ClientId.{ClientId}
 use Rattle.qu_base.specs.declared.party.ObjectId.{ObjectId}
 use Rattle.qu_base.specs.Bounds.{quorum, repair}
@@ -7,6 +8,7 @@ use Rattle.qu_stamp.specs.declared.stamp.Stamp.{Stamp}
 use Rattle.qu_stamp.specs.declared.candidate.Candidate.{Candidate}
 use Rattle.qu_stamp.specs.Stamp.{is_below}
 use Rattle.qu_stamp.specs.Candidate.{member as member_on}
+use Rattle.qu_stamp.specs.Group.{is_group}
 use Rattle.qu_history.specs.declared.sets.SetOf.{SetOf}
 use Rattle.qu_history.specs.Culling.{culled}
 use Rattle.qu_history.specs.Sets.{entries_of, latest_of, order_of, method_at}
@@ -22,7 +24,7 @@ use Rattle.qu_frames.specs.declared.frame.Body.TheVariants as body
 use Rattle.qu_frames.specs.declared.frame.Frame.{Frame}
 use Rattle.qu_frames.specs.declared.frame.Frame.TheVariants as frame
 use Rattle.qu_versions.specs.declared.stored.Stored.{Stored}
-use Rattle.qu_rows.specs.Rows.{Asked, asked_of, fresh_stamp, objects_of}
+use Rattle.qu_rows.specs.Rows.{Asked, asked_of, fresh_stamp, fresh_group, objects_of}
 use Rattle.qu_rows.specs.State.{ReplicaState, own_candidates, own_latest}
 use Rattle.qu_fitting.specs.Holding.{stored_if}
 use Rattle.qu_versions.specs.Versions.{version_at}
@@ -41,14 +43,6 @@ made_stamp asked object barrier =
       set = asked.set;
     }
 
--- the group of the candidates that are made together on these objects: none on one object alone, else each object with
--- the time of its candidate, in their order
-abbrev pub fresh_group : Asked → List ObjectId → List (ObjectId × ℕ)
-fresh_group asked [] = []
-fresh_group asked (object ∷ []) = []
-fresh_group asked (first ∷ second ∷ later) =
-    map (λ (object : ObjectId). (object, (fresh_stamp asked object).time)) (first ∷ second ∷ later)
-
 -- the replica makes the candidate, with those on the other objects: above all that is shown, upon the object candidate,
 -- with the digests of the act, if one is asked for, and of the sets
 pub record IsMade (bounds : ℕ) (asked : Asked) (objects : List ObjectId) (object : ObjectId) (candidate : Candidate)
@@ -57,11 +51,25 @@ pub record IsMade (bounds : ℕ) (asked : Asked) (objects : List ObjectId) (obje
   pub prior : candidate.prior ≡ (object_base bounds (entries_of object asked.sets)).stamp
   pub group : candidate.group ≡ fresh_group asked objects
 
--- the objects on which a request makes candidates together: those of an act, or the one that is mended
-abbrev pub made_on : Body → List ObjectId
-made_on (body.Act parts) = objects_of parts
-made_on (body.Ask parts) = []
-made_on (body.Mend target) = target ∷ []
+-- the object candidate: the greatest without barrier that the sets show so often that it may be repaired
+abbrev pub shown_base : ℕ → Asked → ObjectId → Candidate
+shown_base bounds asked object = object_base bounds (entries_of object asked.sets)
+
+-- the objects on which it was accepted together with others; none where it stands alone
+abbrev pub copied_on : ℕ → Asked → ObjectId → List ObjectId
+copied_on bounds asked object = objects_of (shown_base bounds asked object).group
+
+-- the objects on which a request makes candidates together with one on this object: those of an act, or those that are
+-- copied together. A barrier is set alone.
+abbrev pub made_on : ℕ → Asked → Body → ObjectId → Bool → List ObjectId
+made_on bounds asked (body.Act parts) object barrier = objects_of parts
+made_on bounds asked (body.Ask parts) object barrier = []
+made_on bounds asked (body.Mend target) object true = object ∷ []
+made_on bounds asked (body.Mend target) object false = copied_on bounds asked object
+
+abbrev pub IsMadeFrom : ℕ → Asked → Body → ObjectId → Candidate → Type 0
+IsMadeFrom bounds asked asks object candidate =
+    IsMade bounds asked (made_on bounds asked asks object candidate.stamp.barrier) object candidate
 
 -- it is shown the candidate, by so many that it may be repaired, and nothing later
 pub record IsFound (bounds : ℕ) (asked : Asked) (object : ObjectId) (candidate : Candidate) : Type 0 where
@@ -114,6 +122,12 @@ pub record Performs (old new : ReplicaState) (asked : Asked) (parts : List (Obje
 
 -- ---- a repair (Query/Update: inline repair, barriers and copies)
 
+-- what is copied was accepted together: the object candidates of the group's objects have the stamps that it lists
+pub record AreCopied (bounds : ℕ) (asked : Asked) (object : ObjectId) : Type 0 where
+  pub whole : IsTrue (is_group (shown_base bounds asked object).group)
+  pub together : (other : ObjectId) → Names (shown_base bounds asked object).group other
+      → member_on (shown_base bounds asked object) other ≡ Some (shown_base bounds asked other).stamp
+
 -- why a replica adds a candidate to an object that is to be mended, and which version it stores with it
 pub data IsRemedy (state : ReplicaState) (asked : Asked) (target : ObjectId) (candidate : Candidate)
     : Option ObjState → Type 0 where
@@ -128,10 +142,10 @@ pub data IsRemedy (state : ReplicaState) (asked : Asked) (target : ObjectId) (ca
   -- it sets a barrier
   barrier : candidate.stamp.barrier ≡ true → IsMade state.keys.bounds asked (target ∷ []) target candidate
       → IsRemedy state asked target candidate None
-  -- it copies the object candidate, which stands alone, where a quorum holds the latest, a barrier
+  -- it copies the object candidate, with those on the objects of its group, where a quorum holds the latest, a barrier
   copy : (latest : Candidate) (version : ObjState) → candidate.stamp.barrier ≡ false
-      → IsMade state.keys.bounds asked (target ∷ []) target candidate
-      → (object_base state.keys.bounds (entries_of target asked.sets)).group ≡ []
+      → IsMade state.keys.bounds asked (copied_on state.keys.bounds asked target) target candidate
+      → AreCopied state.keys.bounds asked target
       → latest.stamp.barrier ≡ true → latest.stamp ≡ latest_of (entries_of target asked.sets)
       → quorum state.keys.bounds ≤ order_of latest (entries_of target asked.sets)
       → version_at target candidate.prior state.versions ≡ Some version
@@ -141,6 +155,15 @@ pub data IsRemedy (state : ReplicaState) (asked : Asked) (target : ObjectId) (ca
 abbrev pub MendsOn : ObjectId → List (ObjectId × ℕ) → ObjectId → Type 0
 MendsOn target [] object = target ≡ object
 MendsOn target (member ∷ later) object = Names (member ∷ later) object
+
+abbrev pub mended_objects : ObjectId → List (ObjectId × ℕ) → List ObjectId
+mended_objects target [] = target ∷ []
+mended_objects target (member ∷ later) = objects_of (member ∷ later)
+
+-- the versions that are stored with what is added to these objects
+abbrev pub stored_mended : (ObjectId → Candidate) → (ObjectId → Option ObjState) → List ObjectId → List Stored
+stored_mended candidates versions objects =
+    flat_map (λ object. stored_if object (candidates object).stamp (versions object)) objects
 
 -- it adds a candidate to each object that is mended, above all that it has there
 pub record Mends (old new : ReplicaState) (asked : Asked) (target : ObjectId) (group : List (ObjectId × ℕ))
@@ -156,10 +179,10 @@ pub record Mends (old new : ReplicaState) (asked : Asked) (target : ObjectId) (g
   pub whole : (object : ObjectId) → MendsOn target group object → (candidates object).group ≡ group
   pub listed : (object other : ObjectId) → Names group object → Names group other
       → member_on (candidates object) other ≡ Some (candidates other).stamp
-  pub version : Option ObjState
+  pub versions : ObjectId → Option ObjState
   pub remedy : (object : ObjectId) → MendsOn target group object
-      → IsRemedy old asked object (candidates object) version
-  pub stored : new.versions ≡ old.versions ++ stored_if target (candidates target).stamp version
+      → IsRemedy old asked object (candidates object) (versions object)
+  pub stored : new.versions ≡ old.versions ++ stored_mended candidates versions (mended_objects target group)
 
 -- ---- what a request makes a replica accept
 

@@ -5,7 +5,7 @@ use Rattle.qu_stamp.specs.declared.candidate.Candidate.{Candidate}
 use Rattle.qu_rows.specs.State.{ReplicaState}
 use Rattle.qu_trace.specs.declared.trace.Trace.{Trace}
 use Rattle.qu_rows.specs.Rows.{asked_of}
-use Rattle.qu_claims.specs.Grounds.{made_on, IsMade, IsDelivered}
+use Rattle.qu_claims.specs.Grounds.{IsMadeFrom, IsDelivered}
 
 -- among the first events of the run is one at which a replica made the candidate, and was not shown it
 pub record Origin (trace : Trace) (count : ℕ) (object : ObjectId) (candidate : Candidate) : Type 0 where
@@ -16,6 +16,6 @@ pub record Origin (trace : Trace) (count : ℕ) (object : ObjectId) (candidate :
   pub new : ReplicaState
   pub delivered : IsDelivered trace past place old new object
   pub is_candidate : (delivered.accepts).candidates object ≡ candidate
-  pub made : IsMade trace.setup.bounds
+  pub made : IsMadeFrom trace.setup.bounds
       (asked_of (delivered.accepts).client (delivered.accepts).number (delivered.accepts).sets (delivered.accepts).asks)
-      (made_on (delivered.accepts).asks) object candidate
+      (delivered.accepts).asks object candidate

@@ -1,9 +1,9 @@
 -- The group rule: what it makes of a class, and what the class then tells.
-use Rattle.std.proofs.Common.{◌≡◌, ◌↔◌, ◌+◌, ◌≤◌, ℕ, Bool, true, false, not, cond, List, [], ◌∷◌, find, Option, Some, None, IsSome, length, refl, sym, ap, subst, ◌∙◌, inl, inr, arith}
+use Rattle.std.proofs.Common.{◌≡◌, ◌↔◌, ◌+◌, ◌≤◌, ℕ, Bool, true, false, not, ◌&&◌, cond, List, [], ◌∷◌, find, Option, Some, None, IsSome, length, refl, sym, ap, subst, ◌∙◌, inl, inr, arith}
 use Rattle.std.specs.Prelude.{◌==◌}
 use Rattle.std.specs.List.{AllByRecursion, list_all}
 use Rattle.std.specs.Option.{option_map}
-use Rattle.std.proofs.lemmas.Bool.{false≢true, and_parts, and_from, leb-true, eq-eqb}
+use Rattle.std.proofs.lemmas.Bool.{false≢true, and_parts, and_from, or_parts, leb-true, eq-eqb}
 use Rattle.std.proofs.lemmas.Option.{none-some, same_Some}
 use Rattle.qu_base.specs.Bounds.{quorum}
 use Rattle.qu_base.specs.declared.party.ObjectId.{ObjectId}
@@ -15,11 +15,11 @@ use Rattle.qu_stamp.proofs.Order.{same_stamp-self, equal_by_same_stamp}
 use Rattle.qu_stamp.proofs.Groups.{decides_group}
 use Rattle.qu_history.specs.History.{ObjectHistory}
 use Rattle.qu_history.specs.declared.sets.SetOf.{SetOf}
-use Rattle.qu_history.specs.Sets.{entries_of, latest_of, method_at}
+use Rattle.qu_history.specs.Sets.{histories, entries_of, candidates_of, greatest, latest_of, method_at}
 use Rattle.qu_class.specs.declared.class.Class.{Class}
 use Rattle.qu_class.specs.declared.class.Class.TheVariants.{Method, InlineMethod, Copy, InlineBarrier, Barrier, Needs}
-use Rattle.qu_class.specs.Repairable.{object_base}
-use Rattle.qu_class.specs.Class.{is_latest, class_of, is_in_sets, listed_stamp, agrees, all_agree, first_absent, inline_class, with_members, class_in}
+use Rattle.qu_class.specs.Repairable.{greatest_of_kind, object_base}
+use Rattle.qu_class.specs.Class.{is_latest, is_full, barrier_class, class_of, is_in_sets, listed_stamp, agrees, all_agree, first_absent, inline_class, with_members, class_in}
 use Rattle.qu_class.specs.Rows.{AreWellFormed, IsClassOf, Agrees, AllShown, IsLowestAbsent, IsClassIn, HasGroup}
 use Rattle.qu_class.proofs.ClassRows.{latest_test, class_tells, method_is}
 
@@ -117,6 +117,28 @@ module _ (sets : List SetOf) where
   all_shown [] none = tt
   all_shown (member ∷ later) none =
       shown_by member later (is_in_sets sets member.0) refl none (all_shown later)
+
+-- what is absent has no entries, and is not of class COPY
+none_shown : (sets : List SetOf) (object : ObjectId) → is_in_sets sets object ≡ false → entries_of object sets ≡ []
+unfolding entries_of
+none_shown [] object absent = refl
+none_shown (set ∷ later) object absent =
+    let both = or_parts ((set.object).0 == object.0) (is_in_sets later object) absent in
+    ap (λ (test : Bool). cond test (histories set.entries) (entries_of object later)) both.0
+    ∙ none_shown later object both.1
+
+no_copy : (bounds : ℕ) → class_of bounds [] ≡ Copy → ⊥
+unfolding class_of barrier_class greatest_of_kind candidates_of greatest
+no_copy bounds is =
+    by_tests (is_latest [] (object_base bounds []) && is_full bounds [] (object_base bounds []))
+    (is_latest [] (object_base bounds [])) is
+  where
+    by_tests : (full latest : Bool)
+        → cond full (Method (object_base bounds []))
+        (cond latest (InlineMethod (object_base bounds [])) (Barrier (object_base bounds []).stamp)) ≡ Copy → ⊥
+    by_tests true latest it = absurd cc
+    by_tests false true it = absurd cc
+    by_tests false false it = absurd cc
 
 -- ---- agreement
 
@@ -249,6 +271,16 @@ module _ (bounds : ℕ) (sets : List SetOf) where
     pub copy_is_own : class_in bounds sets object ≡ Copy → class_of bounds entries ≡ Copy
     unfolding class_in
     copy_is_own is = copy_stays (class_of bounds entries) is
+
+    -- the sets show what is of class COPY
+    pub copy_in_sets : class_in bounds sets object ≡ Copy → is_in_sets sets object ≡ true
+    copy_in_sets is = by_test (is_in_sets sets object) refl
+      where
+        by_test : (test : Bool) → is_in_sets sets object ≡ test → is_in_sets sets object ≡ true
+        by_test true shown = shown
+        by_test false absent =
+            absurd (no_copy bounds
+            (sym (ap (class_of bounds) (none_shown sets object absent)) ∙ copy_is_own is))
 
     pub inline_is_own : (candidate : Candidate) → class_in bounds sets object ≡ InlineMethod candidate
         → class_of bounds entries ≡ InlineMethod candidate

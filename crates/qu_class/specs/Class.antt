@@ -53,11 +53,14 @@ is_in_sets sets object = list_any (λ set. (set.object).0 == object.0) sets
 abbrev pub listed_stamp : Candidate → ObjectId × ℕ → Stamp
 listed_stamp candidate member = record candidate.stamp { time = member.1 }
 
+-- the candidate has this stamp, and this whole group
+abbrev pub is_of_group : Candidate → Stamp → List (ObjectId × ℕ) → Bool
+is_of_group candidate stamp group = same_stamp candidate.stamp stamp && same_group candidate.group group
+
 -- where the latest of these entries is the object candidate, and has this stamp and this whole group
 abbrev pub agrees : ℕ → List ObjectHistory → Stamp → List (ObjectId × ℕ) → Bool
 agrees bounds entries stamp group =
-    let base = object_base bounds entries in
-    is_latest entries base && (same_stamp base.stamp stamp && same_group base.group group)
+    let base = object_base bounds entries in is_latest entries base && is_of_group base stamp group
 
 abbrev pub all_agree : ℕ → List SetOf → Candidate → Bool
 all_agree bounds sets candidate =

@@ -7,5 +7,5 @@ mod plan;
 mod repairable;
 
 pub use class::{Class, classify, method_at};
-pub use plan::{CopyPlan, PlanFail, evidence, lowest_other, plan_copy};
+pub use plan::{CopyPlan, PlanFail, evidence, first_apart, plan_copy};
 pub use repairable::object_base;

@@ -1,7 +1,7 @@
 ghost use Rattle.std.specs.Prelude.{◌≡◌, IsTrue};
 ghost use Rattle.qu_history.specs.Sets.{entries_of};
 ghost use Rattle.qu_stamp.specs.Group.{is_group};
-ghost use Rattle.qu_class.specs.Class.{is_in_sets, listed_stamp, agrees, all_agree, first_absent, inline_class, with_members};
+ghost use Rattle.qu_class.specs.Class.{is_in_sets, listed_stamp, is_of_group, agrees, all_agree, first_absent, inline_class, with_members};
 ghost use Rattle.qu_class.specs.Rows.{HasGroup};
 
 use super::Class;
@@ -72,17 +72,24 @@ fn all_agree(sets: &Sets, bounds: &Bounds, candidate: &Candidate) -> bool
         .all(|member| agrees(sets, bounds, candidate, *member))
 }
 
-/// Whether the latest of the member's histories is the object candidate, and has the member's stamp and the whole
-/// group.
-#[tactic(auto, unfolding(qu_stamp::specs::Stamp::same_stamp))]
+/// Whether the latest of the member's histories is the object candidate, and was accepted together with this one.
 fn agrees(sets: &Sets, bounds: &Bounds, candidate: &Candidate, member: (ObjectId, u64)) -> bool
     ensures { result ≡ agrees bounds.now (entries_of member.0 sets.now) (listed_stamp candidate.now member)
         candidate.now.group }
+{
+    let base = object_base(sets, member.0, bounds);
+    is_latest(sets, member.0, &base) && is_companion(&base, candidate, member)
+}
+
+/// Whether this is the candidate's companion on the object of a member of its group: it has the stamp that the group
+/// lists, and the whole group.
+#[tactic(auto, unfolding(qu_stamp::specs::Stamp::same_stamp))]
+pub(super) fn is_companion(base: &Candidate, candidate: &Candidate, member: (ObjectId, u64)) -> bool
+    ensures { result ≡ is_of_group base.now (listed_stamp candidate.now member) candidate.now.group }
 {
     let stamp = Stamp {
         time: member.1,
         ..candidate.stamp
     };
-    let base = object_base(sets, member.0, bounds);
-    is_latest(sets, member.0, &base) && base.stamp == stamp && base.group == candidate.group
+    base.stamp == stamp && base.group == candidate.group
 }

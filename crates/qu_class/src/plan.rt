@@ -1,14 +1,16 @@
-ghost use Rattle.std.specs.Prelude.{◌≡◌, [], All, IfOk, IfNone, Ok, Err, false};
+ghost use Rattle.std.specs.Prelude.{◌≡◌, All, IfOk, Ok, Err, false, map};
 ghost use Rattle.qu_history.specs.Sets.{entries_of};
 ghost use Rattle.qu_class.specs.declared.class.Class.TheVariants.{Copy};
 ghost use Rattle.qu_class.specs.Class.{class_in};
-ghost use Rattle.qu_class.specs.Rows.{MayBeRepaired};
-ghost use Rattle.qu_class.specs.Plan.{evidence_of, lowest_other, plan_of};
+ghost use Rattle.qu_class.specs.Rows.{AreWellFormed, MayBeRepaired};
+ghost use Rattle.qu_class.specs.Plan.{evidence_of, is_copy, joins, first_apart, with_base, joint_by, plan_of, Copies};
 
+use super::class::{Class, classify};
+use super::members::is_companion;
 use super::repairable::object_base;
 use qu_base::{Bounds, List, NoMemory, ObjectId};
 use qu_history::Sets;
-use qu_stamp::{Candidate, Group, Stamp};
+use qu_stamp::{Candidate, Stamp};
 use std::alloc::Global;
 
 /// What a copy copies.
@@ -33,8 +35,8 @@ impl CopyPlan {
 /// are not looked at.
 #[derive(Clone, Copy, Debug, PartialEq, Eq)]
 pub enum PlanFail {
-    /// The object candidate was accepted together with one on this object, the lowest such but for the target: of this
-    /// object more has to be known.
+    /// The object candidate was accepted together with one on this object, the lowest such that cannot be copied with
+    /// it: of this object more has to be known.
     Needs(ObjectId),
     NoMemory,
 }
@@ -61,8 +63,8 @@ pub fn evidence(
     Ok(List::new(alloc))
 }
 
-/// The plan of a copy on an object of class COPY. It is made by the group of what is copied: the target is copied alone
-/// where the object candidate stands alone.
+/// The plan of a copy on an object of class COPY: the object candidate is copied, and with it on each object of its
+/// group what was accepted together with it. For the same sets an object has no part in two plans.
 pub fn plan_copy(
     alloc: Global,
     sets: &Sets,
@@ -75,29 +77,86 @@ pub fn plan_copy(
         → plan_of bounds.now sets.now target ≡ Err (PlanFail.Needs object) }
     ensures sound { IfOk result (λ plan. All
         (λ part. MayBeRepaired bounds.now (entries_of part.0 sets.now) false part.1) plan.joint) }
-    ensures whole { IfOk result (λ plan. All (λ part. part.1.group ≡ []) plan.joint) }
+    ensures one_plan { IfOk result (λ plan. (other object : ObjectId) (besides : CopyPlan)
+        → plan_of bounds.now sets.now other ≡ Ok besides → Copies plan.joint object → Copies besides.joint object
+        → plan ≡ besides) }
 {
     let chosen = object_base(sets, target, bounds);
-    if let Some(other) = lowest_other(target, &chosen.group) {
+    if let Some(other) = first_apart(sets, &chosen, bounds) {
         return Err(PlanFail::Needs(other));
     }
     Ok(CopyPlan {
-        joint: List::one(alloc, (target, chosen))?,
+        joint: joint_with(alloc, sets, target, chosen, bounds)?,
     })
 }
 
-/// The lowest object of a group but for this one; none where the group has no members.
-pub fn lowest_other(object: ObjectId, group: &Group) -> Option<ObjectId>
-    ensures value { result ≡ lowest_other object group.now }
-    ensures alone { IfNone result (group.now ≡ []) }
+/// The lowest object of the candidate's group that cannot be copied together with the others: it is not of class COPY,
+/// or its object candidate was not accepted together with this one.
+pub fn first_apart(sets: &Sets, candidate: &Candidate, bounds: &Bounds) -> Option<ObjectId>
+    ensures { result ≡ first_apart bounds.now sets.now candidate.now }
 {
-    first_other(object, group.pairs())
+    let apart = candidate
+        .group
+        .pairs()
+        .iter()
+        .find(|member| !joins(sets, candidate, **member, bounds))?;
+    Some(apart.0)
 }
 
-/// The first object of these but for this one.
-fn first_other(object: ObjectId, members: &[(ObjectId, u64)]) -> Option<ObjectId>
-    ensures { result ≡ lowest_other object members.now }
+/// Whether the member's object is copied with the candidate.
+#[tactic(auto, unfolding(crate::specs::Plan::joins))]
+fn joins(sets: &Sets, candidate: &Candidate, member: (ObjectId, u64), bounds: &Bounds) -> bool
+    ensures { result ≡ joins bounds.now sets.now candidate.now member }
 {
-    let other = members.iter().find(|member| member.0 != object)?;
-    Some(other.0)
+    is_copy(&classify(sets, member.0, bounds))
+        && is_companion(&object_base(sets, member.0, bounds), candidate, member)
+}
+
+fn is_copy(class: &Class) -> bool
+    ensures { result ≡ is_copy class.now }
+{
+    match class {
+        Class::Copy => true,
+        Class::Method(_)
+        | Class::InlineMethod(_)
+        | Class::InlineBarrier(_)
+        | Class::Barrier { .. }
+        | Class::Needs(_) => false,
+    }
+}
+
+/// The objects that are copied together, where the target's object candidate is this one.
+#[tactic(auto, unfolding(crate::specs::Plan::joint_by))]
+fn joint_with(
+    alloc: Global,
+    sets: &Sets,
+    target: ObjectId,
+    candidate: Candidate,
+    bounds: &Bounds,
+) -> Result<List<(ObjectId, Candidate)>, NoMemory>
+    requires { AreWellFormed bounds.now (entries_of target sets.now) }
+    ensures value { IfOk result (λ joint. joint ≡ joint_by bounds.now sets.now target candidate candidate.group) }
+    ensures formed { IfOk result (λ joint. All (λ part. AreWellFormed bounds.now (entries_of part.0 sets.now)) joint) }
+{
+    match candidate.group.pairs() {
+        [] => List::one(alloc, (target, candidate)),
+        members => with_bases(alloc, sets, members, bounds),
+    }
+}
+
+/// The members' objects, each with its object candidate.
+fn with_bases(
+    alloc: Global,
+    sets: &Sets,
+    members: &[(ObjectId, u64)],
+    bounds: &Bounds,
+) -> Result<List<(ObjectId, Candidate)>, NoMemory>
+    ensures value { IfOk result (λ joint. joint ≡ map (with_base bounds.now sets.now) members.now) }
+    ensures formed { IfOk result (λ joint. All (λ part. AreWellFormed bounds.now (entries_of part.0 sets.now)) joint) }
+{
+    let mut joint = List::new(alloc);
+    for member in members {
+        joint.push((member.0, object_base(sets, member.0, bounds)))?;
+    }
+    Ok(joint)
 }

@@ -1,4 +1,6 @@
 pub mod EndFacts
 pub mod LiveFacts
 pub mod ScriptFacts
+pub mod SimulationFacts
 pub mod TransferFacts
+pub mod OutputFacts

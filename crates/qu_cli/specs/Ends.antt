@@ -1,8 +1,8 @@
 -- How a call of a program ends. What is known of the source and of the sink stands as `source` and
 -- `sink` before the call, and as `source'` and `sink'` behind it.
-use Rattle.std.specs.Prelude.{◌≡◌, ℕ, true, List, Option, None, Some, Ok, Err, IsOk, IsSome, ◌⊎◌, ◌↔◌}
+use Rattle.std.specs.Prelude.{◌≡◌, ⊤, ℕ, true, false, List, [], ◌++◌, Option, None, Some, Result, Ok, Err, IsOk, IsSome, ◌⊎◌, ◌↔◌}
 use Rattle.std.specs.Io.KnownBytes.{IsAtEnd}
-use Rattle.qu_io.specs.Streams.{StreamView, Rose}
+use Rattle.qu_io.specs.Streams.{StreamView, Rose, IsCalm}
 use Rattle.qu_machine.specs.declared.record.Point.{Point}
 use Rattle.qu_machine.specs.Serial.{IsSerial}
 use Rattle.qu_trace.specs.declared.premises.Premises.{Premises}
@@ -14,6 +14,7 @@ use Rattle.qu_premise.specs.Answer.{IsAnswer}
 use Rattle.qu_claims.specs.Chained.{IsChained}
 use Rattle.qu_claims.specs.Order.{IsPrintedOrder}
 use Rattle.qu_print.specs.Report.{report_of}
+use Rattle.qu_print.specs.Summary.{summary_of}
 use Rattle.qu_listing.specs.Digests.{digests_text, letter_bytes_text}
 use Rattle.qu_listing.specs.Events.{events_text}
 use Rattle.qu_language.specs.declared.bad.Bad.{Bad}
@@ -21,27 +22,40 @@ use Rattle.qu_language.specs.declared.line.Script.{Script}
 use Rattle.qu_language.specs.Called.{calls_said}
 use Rattle.qu_language.specs.Script.{script_of}
 use Rattle.qu_gather.specs.Live.{IsLive}
-use Rattle.qu_script.specs.Events.{sim_of}
-use Rattle.qu_cli.specs.declared.command.Command.{Command}
-use Rattle.qu_cli.specs.declared.command.Command.TheVariants.{Sim, Live}
-use Rattle.qu_cli.specs.declared.command.Telling.{Telling}
-use Rattle.qu_cli.specs.declared.command.Telling.TheVariants.{Operations, Events, Digests, Bytes}
+use Rattle.qu_gen.specs.Script.{generated_script}
+use Rattle.qu_script.specs.Events.{played_of, sim_of}
+use Rattle.qu_words.specs.declared.command.Command.{Command}
+use Rattle.qu_words.specs.declared.command.Command.TheVariants.{Sim, Live, SimGen, Gen}
+use Rattle.qu_words.specs.declared.command.Telling.{Telling}
+use Rattle.qu_words.specs.declared.command.Telling.TheVariants.{Operations, Events, Digests, Bytes, Summary}
 use Rattle.qu_cli.specs.Refusal.{bad_text}
 use Rattle.qu_cli.specs.Transfer.{TakesScript, Writes, WritesShort, WritesOrFails}
 
 -- ---- what a command makes of a script
 
--- the text is the report of the run, with the answer of its audit, which is Hold exactly where the premises hold, and
--- its printed order, whose points it tells where they hold. Then the order is a serial order of the run's operations,
+-- the text tells of the run, with the answer of its audit, which is Hold exactly where the premises hold, and with its
+-- printed order, whose points it tells where they hold. Then the order is a serial order of the run's operations,
 -- whatever up to b faulty replicas and all faulty clients sent, and what is established in the run is a chain
-pub record Reports (trace : Trace) (text : List ℕ) : Type 0 where
+pub record TellsOrder (told : Trace → Premises → List Point → List ℕ) (trace : Trace) (text : List ℕ) : Type 0 where
   pub premises : Premises
   pub order : List Point
   pub audited : IsAnswer trace premises
   pub ordered : IsPrintedOrder trace order
   pub serial : MeetsPremises trace → IsSerial trace.setup.kinds (operations_of trace) order
   pub chained : MeetsPremises trace → IsChained trace
-  pub tells : text ≡ report_of trace premises order
+  pub tells : text ≡ told trace premises order
+
+-- it is the report of the run
+abbrev pub Reports : Trace → List ℕ → Type 0
+Reports trace text = TellsOrder report_of trace text
+
+-- it lists the events of the run
+abbrev pub Lists : Trace → List ℕ → Type 0
+Lists trace text = TellsOrder events_text trace text
+
+-- it sums up the run of the script of a number
+abbrev pub SumsUp : ℕ → Trace → List ℕ → Type 0
+SumsUp number trace text = TellsOrder (summary_of number) trace text
 
 -- the headline: where no HMAC of a correct party is forged, and no two different texts that the run digests have one
 -- digest, one machine that runs whole operations in the printed order gives each completed operation of the run its
@@ -57,9 +71,10 @@ pub record HasOneHistory (trace : Trace) : Type 0 where
 -- the text is what is to be told of a run
 abbrev pub TellsRun : Telling → Trace → List ℕ → Type 0
 TellsRun Operations trace text = Reports trace text
-TellsRun Events trace text = text ≡ events_text trace
+TellsRun Events trace text = Lists trace text
 TellsRun Digests trace text = text ≡ digests_text trace
 TellsRun Bytes trace text = text ≡ letter_bytes_text trace
+TellsRun (Summary number) trace text = SumsUp number trace text
 
 -- the trace is that of the script's run, and the text is what is to be told of it
 pub record MakesOf (telling : Telling) (script : List ℕ) (trace : Trace) (text : List ℕ) : Type 0 where
@@ -79,79 +94,172 @@ pub record MakesLive (text : List ℕ) (trace : Trace) (told : List ℕ) : Type 
 abbrev pub MakesRun : Command → List ℕ → Trace → List ℕ → Type 0
 MakesRun (Sim telling) script trace text = MakesOf telling script trace text
 MakesRun Live script trace text = MakesLive script trace text
+MakesRun (SimGen number) script trace text = MakesOf (Summary number) script trace text
+MakesRun (Gen number) script trace text = ⊥
 
--- the same where there may be no trace
+-- the same where no trace is made: the text is the script itself
+abbrev pub MakesScript : Command → List ℕ → List ℕ → Type 0
+MakesScript (Sim telling) script text = ⊥
+MakesScript Live script text = ⊥
+MakesScript (SimGen number) script text = ⊥
+MakesScript (Gen number) script text = text ≡ script
+
 abbrev pub MakesText : Command → List ℕ → Option Trace → List ℕ → Type 0
-MakesText command script None text = ⊥
+MakesText command script None text = MakesScript command script text
 MakesText command script (Some trace) text = MakesRun command script trace text
 
 -- what is known of a run of which a call told that was asked this
 abbrev pub IsPromised : Option Command → Trace → Type 0
 IsPromised None trace = ⊥
 IsPromised (Some (Sim Operations)) trace = HasOneHistory trace
-IsPromised (Some (Sim Events)) trace = IsRun trace
+IsPromised (Some (Sim Events)) trace = HasOneHistory trace
 IsPromised (Some (Sim Digests)) trace = IsRun trace
 IsPromised (Some (Sim Bytes)) trace = IsRun trace
+IsPromised (Some (Sim (Summary number))) trace = HasOneHistory trace
 IsPromised (Some Live) trace = HasOneHistory trace
+IsPromised (Some (SimGen number)) trace = HasOneHistory trace
+IsPromised (Some (Gen number)) trace = ⊥
 
--- the command can make something of it: each command runs a script
+-- the command can make something of it
 abbrev pub IsScriptFor : Command → List ℕ → Type 0
 IsScriptFor (Sim telling) script = IsOk (sim_of script)
 IsScriptFor Live script = IsOk (script_of true script)
+IsScriptFor (SimGen number) script = IsOk (sim_of script)
+IsScriptFor (Gen number) script = ⊤
 
 -- the command refuses it, for this
 abbrev pub Refuses : Command → List ℕ → Bad → Type 0
 Refuses (Sim telling) script bad = sim_of script ≡ Err bad
 Refuses Live script bad = script_of true script ≡ Err bad
+Refuses (SimGen number) script bad = sim_of script ≡ Err bad
+Refuses (Gen number) script bad = ⊥
+
+-- ---- which script it is
+
+-- the command has a script of its own, that of its number
+abbrev pub ReadsNothing : Command → Type 0
+ReadsNothing (Sim telling) = ⊥
+ReadsNothing Live = ⊥
+ReadsNothing (SimGen number) = ⊤
+ReadsNothing (Gen number) = ⊤
+
+-- a call that was asked for such a command leaves the input as it is
+abbrev pub LeavesInput : Option Command → Type 0
+LeavesInput None = ⊤
+LeavesInput (Some command) = ReadsNothing command
+
+-- the script upon which the command works: the one that was taken, or that of its number
+abbrev pub HasScript : Command → StreamView → StreamView → List ℕ → Type 0
+HasScript (Sim telling) source source' script = TakesScript source source' script
+HasScript Live source source' script = TakesScript source source' script
+HasScript (SimGen number) source source' script = script ≡ generated_script number
+HasScript (Gen number) source source' script = script ≡ generated_script number
+
+-- the script that the command is given: all that the source holds, or that of its number
+abbrev pub GivesScript : Command → StreamView → List ℕ → Type 0
+GivesScript (Sim telling) source script = source.bytes ≡ Some script
+GivesScript Live source script = source.bytes ≡ Some script
+GivesScript (SimGen number) source script = script ≡ generated_script number
+GivesScript (Gen number) source script = script ≡ generated_script number
+
+-- the source is at its end, where the command reads it
+abbrev pub IsReadOut : Command → StreamView → Type 0
+IsReadOut (Sim telling) source' = IsAtEnd source'.bytes
+IsReadOut Live source' = IsAtEnd source'.bytes
+IsReadOut (SimGen number) source' = ⊤
+IsReadOut (Gen number) source' = ⊤
+
+-- ---- what is told of a script that is refused
+
+-- a listing has what happened before the refusal, a report or a sum has nothing of it
+abbrev pub TellsFront : Telling → Trace → List ℕ → Type 0
+TellsFront Operations trace front = front ≡ []
+TellsFront Events trace front = TellsRun Events trace front
+TellsFront Digests trace front = TellsRun Digests trace front
+TellsFront Bytes trace front = TellsRun Bytes trace front
+TellsFront (Summary number) trace front = front ≡ []
+
+-- nothing happens where the text is no script
+abbrev pub TellsUntil : Telling → Result Script Bad → List ℕ → Type 0
+TellsUntil telling (Ok script) front = TellsFront telling (played_of script).trace front
+TellsUntil telling (Err bad) front = front ≡ []
+
+-- the line that tells why, behind what is told of what happened before
+pub record TellsRefused (telling : Telling) (script : List ℕ) (bad : Bad) (text : List ℕ) : Type 0 where
+  pub front : List ℕ
+  pub until : TellsUntil telling (script_of false script) front
+  pub tells : text ≡ front ++ bad_text bad
+
+-- the text is what the command tells of a script that it refuses for this
+abbrev pub TellsBad : Command → List ℕ → Bad → List ℕ → Type 0
+TellsBad (Sim telling) script bad text = TellsRefused telling script bad text
+TellsBad Live script bad text = text ≡ bad_text bad
+TellsBad (SimGen number) script bad text = TellsRefused (Summary number) script bad text
+TellsBad (Gen number) script bad text = ⊥
+
+-- this is written, but for a fault of the sink
+pub record WritesBad (command : Command) (script : List ℕ) (bad : Bad) (sink sink' : StreamView) : Type 0 where
+  pub text : List ℕ
+  pub tells : TellsBad command script bad text
+  pub writes : WritesOrFails sink sink' text
 
 -- ---- the ends
 
--- a script was taken that the command refuses, and its line is told, but for a fault of the sink
+-- the command refuses its script, and it is told why, but for a fault of the sink
 pub record EndsBad (asked : Option Command) (source source' sink sink' : StreamView) : Type 0 where
   pub command : Command
   pub script : List ℕ
   pub bad : Bad
   pub asks : asked ≡ Some command
-  pub takes : TakesScript source source' script
+  pub takes : HasScript command source source' script
   pub refuses : Refuses command script bad
-  pub tells : WritesOrFails sink sink' (bad_text bad)
+  pub tells : WritesBad command script bad sink sink'
 
--- the text of the script that was taken stays short, by a fault of the sink
+-- the text of the script stays short, by a fault of the sink
 pub record EndsShort (asked : Option Command) (source source' sink sink' : StreamView) (trace : Option Trace) : Type 0
   where
     pub command : Command
     pub script : List ℕ
     pub text : List ℕ
     pub asks : asked ≡ Some command
-    pub takes : TakesScript source source' script
-    pub to_end : IsAtEnd source'.bytes
+    pub takes : HasScript command source source' script
+    pub to_end : IsReadOut command source'
     pub makes : MakesText command script trace text
     pub short : WritesShort sink sink' text
 
--- the source is at its end, and the whole text of what it had is written
+-- the whole text of the script is written, with no fault of the sink
 pub record EndsDone (asked : Option Command) (source source' sink sink' : StreamView) (trace : Option Trace) : Type 0
   where
     pub command : Command
     pub script : List ℕ
     pub text : List ℕ
     pub asks : asked ≡ Some command
-    pub takes : TakesScript source source' script
-    pub to_end : IsAtEnd source'.bytes
+    pub takes : HasScript command source source' script
+    pub to_end : IsReadOut command source'
     pub makes : MakesText command script trace text
     pub writes : Writes sink sink' text
+    pub calm : IsCalm sink sink'
 
--- there is a trace exactly where a text was made, whether or not it was written whole
-abbrev pub IsTraced : Option Trace → ℕ → Type 0
-IsTraced trace status = IsSome trace ↔ ((status ≡ 0) ⊎ (status ≡ 5))
+-- all commands but `gen` run something
+abbrev pub Runs : Option Command → Type 0
+Runs None = ⊤
+Runs (Some (Sim telling)) = ⊤
+Runs (Some Live) = ⊤
+Runs (Some (SimGen number)) = ⊤
+Runs (Some (Gen number)) = ⊥
+
+-- there is a trace exactly where a text was made of a run, whether or not it was written whole
+abbrev pub IsTraced : Option Command → Option Trace → ℕ → Type 0
+IsTraced asked trace status = IsSome trace ↔ (Runs asked × ((status ≡ 0) ⊎ (status ≡ 5)))
 
 -- ---- which end comes
 
--- a source that holds a script which the command refuses, and has no fault: its line is told
+-- a command that is given a script which it refuses, and no fault of the source: it is told why, whatever the sink does
 abbrev pub IsRefused : Option Command → StreamView → StreamView → StreamView → StreamView → ℕ → Type 0
 IsRefused asked source source' sink sink' status =
-    (command : Command) (script : List ℕ) (bad : Bad) → asked ≡ Some command → source.bytes ≡ Some script
+    (command : Command) (script : List ℕ) (bad : Bad) → asked ≡ Some command → GivesScript command source script
     → Refuses command script bad → (Rose source source' → ⊥)
-    → ((status ≡ 3) × WritesOrFails sink sink' (bad_text bad)) ⊎ (status ≡ 6)
+    → ((status ≡ 3) × WritesBad command script bad sink sink') ⊎ (status ≡ 6)
 
 -- the text that the command makes of the script is written whole
 pub record WritesMade (command : Command) (script : List ℕ) (sink sink' : StreamView) (trace : Option Trace) : Type 0
@@ -160,11 +268,11 @@ pub record WritesMade (command : Command) (script : List ℕ) (sink sink' : Stre
     pub makes : MakesText command script trace text
     pub writes : Writes sink sink' text
 
--- a source that holds a good script, and no fault of source or sink: the whole text is written, unless there is no
+-- a command that is given a good script, and no fault of source or sink: the whole text is written, unless there is no
 -- memory, or what threads left behind is torn
 abbrev pub IsComplete : Option Command → StreamView → StreamView → StreamView → StreamView → Option Trace → ℕ → Type 0
 IsComplete asked source source' sink sink' trace status =
-    (command : Command) (script : List ℕ) → asked ≡ Some command → source.bytes ≡ Some script
+    (command : Command) (script : List ℕ) → asked ≡ Some command → GivesScript command source script
     → IsScriptFor command script → (Rose source source' → ⊥) → (Rose sink sink' → ⊥)
     → ((status ≡ 0) × WritesMade command script sink sink' trace)
     ⊎ ((status ≡ 6) ⊎ ((asked ≡ Some Live) × (status ≡ 7)))

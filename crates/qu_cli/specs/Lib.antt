@@ -1,5 +1,4 @@
 pub mod Refusal
-pub mod Command
 pub mod Transfer
 pub mod Report
 pub mod Ends

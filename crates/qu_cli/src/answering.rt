@@ -1,20 +1,20 @@
 ghost use Rattle.std.specs.Prelude.{◌≡◌, ◌≢◌, ◌≤◌, ◌↔◌, None, IfSome};
 ghost use Rattle.qu_io.specs.Streams.{Rose, IsCalm};
-ghost use Rattle.qu_cli.specs.Output.{IsAlone};
+ghost use Rattle.qu_words.specs.Words.{IsAlone};
 ghost use Rattle.qu_cli.specs.Transfer.{TakesFew, WritesOrFails};
-ghost use Rattle.qu_cli.specs.Ends.{EndsBad, EndsShort, EndsDone, IsPromised, IsTraced, IsRefused, IsComplete};
+ghost use Rattle.qu_cli.specs.Ends.{EndsBad, EndsShort, EndsDone, IsPromised, IsTraced, IsRefused, IsComplete, LeavesInput};
 
 use super::output::{NoOutput, Output, output_for};
 use super::writing::{tell_text, write_text};
-use super::{Command, End, Report};
+use super::{End, Report};
 use qu_io::{Sink, Source};
+use qu_words::Command;
 use std::alloc::Global;
 
 /// Does what a program was asked, over the input, with all that it tells in the output. Where it was asked
 /// nothing that it knows, it tells its usage.
 ///
 /// The statuses are those of `qu`, with their causes.
-#[tactic(auto, using(crate::proofs::EndFacts::end_laws))]
 pub fn answer<S: Source, K: Sink>(
     alloc: Global,
     asked: Option<Command>,
@@ -26,6 +26,7 @@ pub fn answer<S: Source, K: Sink>(
     ensures status { (result.status ≤ 6) × (result.status ≢ 1) }
     ensures few { TakesFew (S.known input.old) (S.known input.new) }
 
+    ensures unread { LeavesInput asked → input.new ≡ input.old }
     ensures bad_words { (result.status ≡ 2) ↔ (asked ≡ None) }
     ensures usage { result.status ≡ 2 → (input.new ≡ input.old)
         × WritesOrFails (K.known output.old) (K.known output.new) usage.now }
@@ -39,7 +40,7 @@ pub fn answer<S: Source, K: Sink>(
     ensures no_memory { result.status ≡ 6 → output.new ≡ output.old }
     ensures done { result.status ≡ 0 → EndsDone asked
         (S.known input.old) (S.known input.new) (K.known output.old) (K.known output.new) result.trace }
-    ensures traced { IsTraced result.trace result.status }
+    ensures traced { IsTraced asked result.trace result.status }
     ensures known { IfSome result.trace (IsPromised asked) }
     ensures whole { result.torn ≡ None }
 
@@ -57,8 +58,8 @@ pub fn answer<S: Source, K: Sink>(
             Ok(()) => Report::with_trace(End::Done, trace),
             Err(_) => Report::with_trace(End::WriteFault, trace),
         },
-        Ok(Output::Refusal(line, hint)) => {
-            tell_text(output, line.as_bytes());
+        Ok(Output::Refusal(text, hint)) => {
+            tell_text(output, text.as_slice());
             Report::with_hint(hint)
         }
         Err(NoOutput::ReadFault) => Report::from(End::ReadFault),

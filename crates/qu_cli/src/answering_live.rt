@@ -6,9 +6,10 @@ ghost use Rattle.qu_cli.specs.Ends.{EndsBad, EndsShort, EndsDone, IsPromised, Is
 use super::live::live_output_for;
 use super::output::{NoOutput, Output};
 use super::writing::{tell_text, write_text};
-use super::{Command, End, Report};
+use super::{End, Report};
 use qu_io::{Sink, Source};
 use qu_live::Gate;
+use qu_words::Command;
 use std::alloc::Global;
 use std::sync::Wait;
 use std::thread::Threads;
@@ -16,7 +17,6 @@ use std::thread::Threads;
 /// Runs the calls of the script on the input on threads, with all that it tells in the output.
 ///
 /// The statuses are those of `qu`, with their causes.
-#[tactic(auto, using(crate::proofs::EndFacts::end_laws))]
 pub fn answer_live<R: Threads + Wait + Sync, S: Source, K: Sink, G: Gate>(
     rt: &R,
     alloc: Global,
@@ -38,7 +38,7 @@ pub fn answer_live<R: Threads + Wait + Sync, S: Source, K: Sink, G: Gate>(
     ensures no_memory { result.status ≡ 6 → output.new ≡ output.old }
     ensures done { result.status ≡ 0 → EndsDone (Some Command.Live)
         (S.known input.old) (S.known input.new) (K.known output.old) (K.known output.new) result.trace }
-    ensures traced { IsTraced result.trace result.status }
+    ensures traced { IsTraced (Some Command.Live) result.trace result.status }
     ensures known { IfSome result.trace (IsPromised (Some Command.Live)) }
     ensures torn { IsSome result.torn ↔ (result.status ≡ 7) }
     ensures tears { result.status ≡ 7 → output.new ≡ output.old }
@@ -53,8 +53,8 @@ pub fn answer_live<R: Threads + Wait + Sync, S: Source, K: Sink, G: Gate>(
             Ok(()) => Report::with_trace(End::Done, trace),
             Err(_) => Report::with_trace(End::WriteFault, trace),
         },
-        Ok(Output::Refusal(line, hint)) => {
-            tell_text(output, line.as_bytes());
+        Ok(Output::Refusal(text, hint)) => {
+            tell_text(output, text.as_slice());
             Report::with_hint(hint)
         }
         Err(NoOutput::ReadFault) => Report::from(End::ReadFault),

@@ -3,7 +3,6 @@
 
 mod answering;
 mod answering_live;
-mod command;
 mod letters;
 mod limits;
 mod live;
@@ -16,9 +15,9 @@ mod simulation;
 mod top;
 mod writing;
 
-pub use command::{Command, Telling};
 pub use letters::qu_letters;
 pub use limits::{PIECE, limits_are_these};
+pub use qu_words::{Command, Telling};
 pub use report::{End, Report};
-pub use script::run_script;
+pub use script::{run_script, run_until_refused};
 pub use top::{qu, qu_alone};

@@ -6,17 +6,18 @@ ghost use Rattle.qu_gather.specs.Live.{IsLive};
 ghost use Rattle.qu_cli.specs.Output.{IsOutput, MayFail, Outputs, HasNoOutput};
 ghost use Rattle.qu_cli.specs.Transfer.{TakesFew};
 
-use super::Command;
 use super::output::{NoOutput, Output};
 use super::reading::take_script;
-use super::refusal::refusal_line;
+use super::refusal::refusal_text;
 use super::simulation::operations_text;
+use qu_base::List;
 use qu_gather::LiveFail;
 use qu_hints::hint;
 use qu_io::Source;
 use qu_live::{Gate, run_live};
 use qu_script::{Script, ScriptFail, read_live_script};
 use qu_trace::Trace;
+use qu_words::Command;
 use std::alloc::Global;
 use std::sync::Wait;
 use std::thread::Threads;
@@ -56,11 +57,11 @@ fn live_output<R: Threads + Wait + Sync, G: Gate>(
         Ok(script) => {
             let trace = run_calls(rt, alloc, script, gate)?;
             let text = operations_text(alloc, &trace)?;
-            Ok(Output::Report(trace, text))
+            Ok(Output::Report(Some(trace), text))
         }
         Err(ScriptFail::Bad(bad)) => {
-            let line = refusal_line(alloc, bad)?;
-            Ok(Output::Refusal(line, hint(alloc, true, script, bad)?))
+            let told = refusal_text(alloc, List::new(alloc), bad)?;
+            Ok(Output::Refusal(told, hint(alloc, true, script, bad)))
         }
         Err(ScriptFail::NoMemory) => Err(LiveFail::NoMemory),
     }

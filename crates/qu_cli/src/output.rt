@@ -1,24 +1,29 @@
 ghost use Rattle.std.specs.Prelude.{◌≡◌, ◌≢◌, IfOk, IfErr, Err};
 ghost use Rattle.qu_io.specs.Streams.{Rose, IsCalm};
 ghost use Rattle.qu_cli.specs.Transfer.{TakesFew};
-ghost use Rattle.qu_cli.specs.Output.{IsAlone, IsOutput, IsWhole, Outputs};
+ghost use Rattle.qu_gen.specs.Script.{generated_script};
+ghost use Rattle.qu_words.specs.Words.{IsAlone};
+ghost use Rattle.qu_cli.specs.Ends.{ReadsNothing};
+ghost use Rattle.qu_cli.specs.Output.{IsOutput, IsWhole, Outputs};
 
-use super::Command;
 use super::reading::{NoScript, take_script};
 use super::simulation::simulate;
 use qu_base::{List, NoMemory};
 use qu_gather::Torn;
+use qu_gen::gen_script;
 use qu_io::Source;
 use qu_trace::Trace;
+use qu_words::{Command, Telling};
 use std::alloc::Global;
 
-/// What a command has to write, of its input.
+/// What a command has to write.
 #[derive(Drop)]
 pub enum Output {
-    /// The run of a good script, and the whole text that tells of it.
-    Report(Trace, List<u8>),
-    /// The line that tells why the script is refused, and another one, for people, of what could stand there.
-    Refusal(String, String),
+    /// The run of a good script, where one was made, and the whole text that is wanted.
+    Report(Option<Trace>, List<u8>),
+    /// The text that tells why the script is refused, and a line for people of what could stand there, where there is
+    /// memory for it.
+    Refusal(List<u8>, Option<String>),
 }
 
 /// Why a command has nothing to write.
@@ -54,7 +59,8 @@ impl From<NoMemory> for NoOutput {
     }
 }
 
-/// Reads what a command wants to read, and computes what it has to write, without threads.
+/// Reads the script that a command wants, or makes that of its number, and computes what it has to write, without
+/// threads.
 pub fn output_for<S: Source>(
     alloc: Global,
     command: Command,
@@ -66,18 +72,45 @@ pub fn output_for<S: Source>(
     ensures fault { result ≡ Err NoOutput.ReadFault → Rose (S.known input.old) (S.known input.new) }
     ensures calm { result ≢ Err NoOutput.ReadFault → IsCalm (S.known input.old) (S.known input.new) }
     ensures whole { IfErr result IsWhole }
-{
-    let script = take_script(alloc, input)?;
-    Ok(made(alloc, command, script.as_slice())?)
-}
-
-/// What a command makes of a script without threads.
-fn made(alloc: Global, command: Command, script: &[u8]) -> Result<Output, NoMemory>
-    requires { IsAlone command }
-    ensures { IfOk result (IsOutput command script.now) }
+    ensures unread { ReadsNothing command → input.new ≡ input.old }
 {
     match command {
-        Command::Sim(telling) => simulate(alloc, telling, script),
+        Command::Sim(telling) => read_output(alloc, telling, input),
         Command::Live => unreachable!(),
+        Command::SimGen(number) => Ok(summary_output(alloc, number)?),
+        Command::Gen(number) => Ok(script_output(alloc, number)?),
     }
+}
+
+/// What is to be told of the run of the script on the input.
+fn read_output<S: Source>(
+    alloc: Global,
+    telling: Telling,
+    input: &mut S,
+) -> Result<Output, NoOutput>
+    ensures outputs { IfOk result (Outputs (Command.Sim telling) (S.known input.old) (S.known input.new)) }
+    ensures few { TakesFew (S.known input.old) (S.known input.new) }
+    ensures fault { result ≡ Err NoOutput.ReadFault → Rose (S.known input.old) (S.known input.new) }
+    ensures calm { result ≢ Err NoOutput.ReadFault → IsCalm (S.known input.old) (S.known input.new) }
+    ensures whole { IfErr result IsWhole }
+{
+    let script = take_script(alloc, input)?;
+    Ok(simulate(alloc, telling, script.as_slice())?)
+}
+
+/// What is to be told of the run of the script of a number.
+#[tactic(auto, using(crate::proofs::OutputFacts::summed_output))]
+fn summary_output(alloc: Global, number: u64) -> Result<Output, NoMemory>
+    ensures { IfOk result (IsOutput (Command.SimGen number) (generated_script number)) }
+{
+    let script = gen_script(alloc, number)?;
+    simulate(alloc, Telling::Summary(number), script.as_slice())
+}
+
+/// The script of a number.
+fn script_output(alloc: Global, number: u64) -> Result<Output, NoMemory>
+    ensures { IfOk result (IsOutput (Command.Gen number) (generated_script number)) }
+{
+    let script = gen_script(alloc, number)?;
+    Ok(Output::Report(None, script))
 }

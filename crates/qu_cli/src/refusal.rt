@@ -1,7 +1,7 @@
-ghost use Rattle.std.specs.Prelude.{◌≡◌, IfOk, string_bytes};
+ghost use Rattle.std.specs.Prelude.{◌≡◌, ◌++◌, IfOk, string_bytes};
 ghost use Rattle.qu_cli.specs.Refusal.{kind_text, bad_text};
 
-use qu_base::NoMemory;
+use qu_base::{List, NoMemory};
 use qu_script::{Bad, BadKind};
 use std::alloc::Global;
 
@@ -36,10 +36,20 @@ fn kind_words(kind: BadKind) -> &'static str
 
 /// The line that tells why a script is refused.
 #[tactic(auto, unfolding(crate::specs::Refusal::bad_text))]
-pub fn refusal_line(alloc: Global, bad: Bad) -> Result<String, NoMemory>
+fn refusal_line(alloc: Global, bad: Bad) -> Result<String, NoMemory>
     ensures { IfOk result (λ text. string_bytes text ≡ bad_text bad) }
 {
     let line = bad.line;
     let kind = kind_words(bad.kind);
     Ok(format!(in alloc; "line {line}: {kind}\n")?)
+}
+
+/// What is told of a script that is refused: this, and the line that tells why.
+pub fn refusal_text(alloc: Global, told: List<u8>, bad: Bad) -> Result<List<u8>, NoMemory>
+    ensures { IfOk result (λ text. text ≡ told ++ bad_text bad) }
+{
+    let line = refusal_line(alloc, bad)?;
+    let mut text = told.into_vec();
+    text.extend_from_slice(line.as_bytes())?;
+    Ok(List::from(text))
 }

@@ -49,20 +49,21 @@ pub struct Report {
     pub trace: Option<Trace>,
     /// What of a run on threads does not fit together, where something does not.
     pub torn: Option<Torn>,
-    /// Where a script is refused, what could stand there, in words for people. No clause speaks of them.
+    /// Where a script is refused, what could stand there, in words for people, if there is memory for them. No clause
+    /// speaks of them.
     pub hint: Option<String>,
 }
 
 impl Report {
-    /// The report of a run that ended so.
-    pub fn with_trace(outcome: End, trace: Trace) -> Report
+    /// The report of a call that ended so, with the run that it made, if it made one.
+    pub fn with_trace(outcome: End, trace: Option<Trace>) -> Report
         ensures status { result.status ≡ status_of outcome }
-        ensures trace { result.trace ≡ Some trace }
+        ensures trace { result.trace ≡ trace }
         ensures torn { result.torn ≡ None }
     {
         Report {
             status: outcome.status(),
-            trace: Some(trace),
+            trace,
             torn: None,
             hint: None,
         }
@@ -83,14 +84,14 @@ impl Report {
     }
 
     /// The report of a script that is refused, with what could stand there.
-    pub fn with_hint(hint: String) -> Report
+    pub fn with_hint(hint: Option<String>) -> Report
         ensures { (result.status ≡ status_of End.BadScript) × (result.trace ≡ None) × (result.torn ≡ None) }
     {
         Report {
             status: End::BadScript.status(),
             trace: None,
             torn: None,
-            hint: Some(hint),
+            hint,
         }
     }
 }

@@ -1,42 +1,114 @@
-ghost use Rattle.std.specs.Prelude.{IfOk};
-ghost use Rattle.qu_world.specs.Run.{IsRun};
-ghost use Rattle.qu_language.specs.Meaning.{IsAsMeant};
-ghost use Rattle.qu_script.specs.Events.{sim_of};
-ghost use Rattle.qu_cli.specs.Ends.{Reports, TellsRun};
+ghost use Rattle.std.specs.Prelude.{◌≡◌, false, None, Some, Ok, Err, IfOk};
+ghost use Rattle.qu_world.specs.Run.{IsRun, IsSetup};
+ghost use Rattle.qu_language.specs.Script.{script_of};
+ghost use Rattle.qu_script.specs.Events.{played_of};
+ghost use Rattle.qu_cli.specs.Ends.{Reports, Lists, SumsUp, TellsFront, TellsRun};
 ghost use Rattle.qu_cli.specs.Output.{IsOutput};
 
 use super::output::Output;
-use super::refusal::refusal_line;
-use super::script::run_script;
-use super::{Command, Telling};
+use super::refusal::refusal_text;
+use super::script::run_until_refused;
 use qu_base::{List, NoMemory};
-use qu_hints::hint;
+use qu_hints::{hint, run_hint};
 use qu_listing::{bytes_text, digests_text, events_text};
 use qu_premise::audit;
-use qu_print::report_text;
+use qu_print::{report_text, summary_text};
 use qu_safety::order_of;
-use qu_script::{ScriptFail, read_script};
+use qu_script::{Bad, Played, Script, ScriptFail, read_script};
 use qu_trace::{DecodedTrace, Trace};
+use qu_words::{Command, Telling};
 use std::alloc::Global;
 
-/// Runs a script and tells this of the run, or why there is none.
-pub fn simulate(alloc: Global, telling: Telling, script: &[u8]) -> Result<Output, NoMemory>
-    ensures { IfOk result (IsOutput (Command.Sim telling) script.now) }
+/// Runs the script that a text spells and tells this of the run, or why the script is refused.
+pub fn simulate(alloc: Global, telling: Telling, text: &[u8]) -> Result<Output, NoMemory>
+    ensures { IfOk result (IsOutput (Command.Sim telling) text.now) }
 {
-    match run_text(alloc, script) {
-        Ok(trace) => {
-            let text = told_text(alloc, telling, &trace)?;
-            Ok(Output::Report(trace, text))
-        }
-        Err(ScriptFail::Bad(bad)) => {
-            let line = refusal_line(alloc, bad)?;
-            Ok(Output::Refusal(line, hint(alloc, false, script, bad)?))
-        }
+    match read_script(alloc, text) {
+        Ok(script) => run_told(alloc, telling, text, &script),
+        Err(ScriptFail::Bad(bad)) => unread_told(alloc, telling, text, bad),
         Err(ScriptFail::NoMemory) => Err(NoMemory),
     }
 }
 
-/// What is told of the run of a script.
+/// What is told of a text that is no script.
+#[tactic(auto, using(crate::proofs::SimulationFacts::unread_output))]
+fn unread_told(alloc: Global, telling: Telling, text: &[u8], bad: Bad) -> Result<Output, NoMemory>
+    requires { script_of false text.now ≡ Err bad }
+    ensures { IfOk result (IsOutput (Command.Sim telling) text.now) }
+{
+    let told = refusal_text(alloc, List::new(alloc), bad)?;
+    Ok(Output::Refusal(told, hint(alloc, false, text, bad)))
+}
+
+/// What is told of the run of the script that a text spells.
+fn run_told(
+    alloc: Global,
+    telling: Telling,
+    text: &[u8],
+    script: &Script,
+) -> Result<Output, NoMemory>
+    requires spelled { script_of false text.now ≡ Ok script.now }
+    requires setup { IsSetup script.now.setup }
+    ensures { IfOk result (IsOutput (Command.Sim telling) text.now) }
+{
+    let Played { trace, refused } = run_until_refused(alloc, script)?;
+    match refused {
+        None => whole_told(alloc, telling, text, script, trace),
+        Some(bad) => stopped_told(alloc, telling, text, script, &trace, bad),
+    }
+}
+
+/// What is told of a run that is not refused.
+#[tactic(auto, using(crate::proofs::SimulationFacts::whole_output))]
+fn whole_told(
+    alloc: Global,
+    telling: Telling,
+    text: &[u8],
+    script: &Script,
+    trace: Trace,
+) -> Result<Output, NoMemory>
+    requires spelled { script_of false text.now ≡ Ok script.now }
+    requires played { played_of script.now ≡ record { trace = trace; refused = None } }
+    requires run { IsRun trace }
+    ensures { IfOk result (IsOutput (Command.Sim telling) text.now) }
+{
+    let told = told_text(alloc, telling, &trace)?;
+    Ok(Output::Report(Some(trace), told))
+}
+
+/// What is told of a run that is refused, and of what happened before.
+#[tactic(auto, using(crate::proofs::SimulationFacts::stopped_output))]
+fn stopped_told(
+    alloc: Global,
+    telling: Telling,
+    text: &[u8],
+    script: &Script,
+    trace: &Trace,
+    bad: Bad,
+) -> Result<Output, NoMemory>
+    requires spelled { script_of false text.now ≡ Ok script.now }
+    requires played { played_of script.now ≡ record { trace = trace.now; refused = Some bad } }
+    requires run { IsRun trace.now }
+    ensures { IfOk result (IsOutput (Command.Sim telling) text.now) }
+{
+    let front = front_text(alloc, telling, trace)?;
+    let told = refusal_text(alloc, front, bad)?;
+    Ok(Output::Refusal(told, run_hint(alloc, script, trace, bad)))
+}
+
+/// What is told of what happened before a refusal.
+#[tactic(auto, using(crate::proofs::SimulationFacts::front_laws))]
+fn front_text(alloc: Global, telling: Telling, trace: &Trace) -> Result<List<u8>, NoMemory>
+    requires { IsRun trace.now }
+    ensures { IfOk result (TellsFront telling trace.now) }
+{
+    match telling {
+        Telling::Operations | Telling::Summary(_) => Ok(List::new(alloc)),
+        Telling::Events | Telling::Digests | Telling::Bytes => told_text(alloc, telling, trace),
+    }
+}
+
+/// What is told of a run.
 fn told_text(alloc: Global, telling: Telling, trace: &Trace) -> Result<List<u8>, NoMemory>
     requires { IsRun trace.now }
     ensures { IfOk result (TellsRun telling trace.now) }
@@ -47,7 +119,7 @@ fn told_text(alloc: Global, telling: Telling, trace: &Trace) -> Result<List<u8>,
             Ok(text)
         }
         Telling::Events => {
-            let text = events_text(alloc, trace)?;
+            let text = listing_text(alloc, trace)?;
             Ok(text)
         }
         Telling::Digests => {
@@ -56,6 +128,10 @@ fn told_text(alloc: Global, telling: Telling, trace: &Trace) -> Result<List<u8>,
         }
         Telling::Bytes => {
             let text = bytes_text(alloc, trace)?;
+            Ok(text)
+        }
+        Telling::Summary(number) => {
+            let text = sums_text(alloc, number, trace)?;
             Ok(text)
         }
     }
@@ -73,12 +149,26 @@ pub fn operations_text(alloc: Global, trace: &Trace) -> Result<List<u8>, NoMemor
     Ok(text)
 }
 
-/// The run of the script that a text spells.
-#[tactic(auto, unfolding(qu_script::specs::Events::sim_of))]
-fn run_text(alloc: Global, text: &[u8]) -> Result<Trace, ScriptFail>
-    ensures value { IsAsMeant (λ trace. trace) result (sim_of text.now) }
-    ensures run { IfOk result IsRun }
+/// The events of a run, with the points that its report tells.
+fn listing_text(alloc: Global, trace: &Trace) -> Result<List<u8>, NoMemory>
+    requires { IsRun trace.now }
+    ensures { IfOk result (Lists trace.now) }
 {
-    let script = read_script(alloc, text)?;
-    run_script(alloc, &script)
+    let run = DecodedTrace::of(alloc, trace)?;
+    let premises = audit(alloc, &run)?;
+    let order = order_of(alloc, &run)?;
+    let text = events_text(alloc, trace, &premises, order.as_slice())?;
+    Ok(text)
+}
+
+/// The line that sums up the run of the script of a number.
+fn sums_text(alloc: Global, number: u64, trace: &Trace) -> Result<List<u8>, NoMemory>
+    requires { IsRun trace.now }
+    ensures { IfOk result (SumsUp number trace.now) }
+{
+    let run = DecodedTrace::of(alloc, trace)?;
+    let premises = audit(alloc, &run)?;
+    let order = order_of(alloc, &run)?;
+    let text = summary_text(alloc, number, &run, &premises, order.as_slice())?;
+    Ok(text)
 }

@@ -1,15 +1,15 @@
 ghost use Rattle.std.specs.Prelude.{◌≡◌, ◌≢◌, ◌≤◌, ◌↔◌, None, Some, IfSome, IsSome, map, string_bytes};
 ghost use Rattle.qu_io.specs.Streams.{Rose, IsCalm};
-ghost use Rattle.qu_cli.specs.Command.{alone_command_of, command_of, usage_text};
+ghost use Rattle.qu_words.specs.Words.{alone_command_of, command_of, usage_text};
 ghost use Rattle.qu_cli.specs.Transfer.{TakesFew, WritesOrFails};
-ghost use Rattle.qu_cli.specs.Ends.{EndsBad, EndsShort, EndsDone, HasOneHistory, IsTraced, IsRefused, IsComplete};
+ghost use Rattle.qu_cli.specs.Ends.{EndsBad, EndsShort, EndsDone, HasOneHistory, IsTraced, IsRefused, IsComplete, LeavesInput};
 
+use super::Report;
 use super::answering::answer;
 use super::answering_live::answer_live;
-use super::command::{USAGE, asks_live, read_alone_command};
-use super::{Command, Report};
 use qu_io::{Sink, Source};
 use qu_live::Gate;
+use qu_words::{Command, USAGE, alone_command, asks_live};
 use std::alloc::Global;
 use std::sync::Wait;
 use std::thread::Threads;
@@ -18,9 +18,10 @@ use std::thread::Threads;
 ///
 /// The status is 0 where all went well, 2 for wrong words, 3 for a script that is refused, 4 for a
 /// fault of the input, 5 for one of the output, and 6 for want of memory. Any other status than 4 comes
-/// with no new fault of the input. At 0 and 5 the report has the trace of the run, whose operations have
-/// one history. The word `live` is wrong here.
-#[tactic(auto, using(crate::proofs::EndFacts::has_history), unfolding(crate::specs::Command::usage_text))]
+/// with no new fault of the input. At 0 and 5 the report has the trace of the run, if there was one, whose operations
+/// have one history. For words with a number nothing is read: the script is that of the number. The word `live` is
+/// wrong here.
+#[tactic(auto, using(crate::proofs::EndFacts::has_history), unfolding(qu_words::specs::Words::usage_text))]
 pub fn qu_alone<S: Source, K: Sink>(
     alloc: Global,
     words: &[String],
@@ -30,6 +31,7 @@ pub fn qu_alone<S: Source, K: Sink>(
     ensures status { (result.status ≤ 6) × (result.status ≢ 1) }
     ensures few { TakesFew (S.known input.old) (S.known input.new) }
 
+    ensures unread { LeavesInput (alone_command_of (map string_bytes words.now)) → input.new ≡ input.old }
     ensures bad_words { (result.status ≡ 2) ↔ (alone_command_of (map string_bytes words.now) ≡ None) }
     ensures usage { result.status ≡ 2 → (input.new ≡ input.old)
         × WritesOrFails (K.known output.old) (K.known output.new) usage_text }
@@ -43,7 +45,7 @@ pub fn qu_alone<S: Source, K: Sink>(
     ensures no_memory { result.status ≡ 6 → output.new ≡ output.old }
     ensures done { result.status ≡ 0 → EndsDone (alone_command_of (map string_bytes words.now))
         (S.known input.old) (S.known input.new) (K.known output.old) (K.known output.new) result.trace }
-    ensures traced { IsTraced result.trace result.status }
+    ensures traced { IsTraced (alone_command_of (map string_bytes words.now)) result.trace result.status }
     ensures headline { IfSome result.trace HasOneHistory }
     ensures whole { result.torn ≡ None }
 
@@ -52,7 +54,7 @@ pub fn qu_alone<S: Source, K: Sink>(
     ensures complete { IsComplete (alone_command_of (map string_bytes words.now)) (S.known input.old)
         (S.known input.new) (K.known output.old) (K.known output.new) result.trace result.status }
 {
-    answer(alloc, read_alone_command(words), USAGE, input, output)
+    answer(alloc, alone_command(words), USAGE, input, output)
 }
 
 /// Runs the program `qu`. For the one word `live` it runs the calls of the script on the input on threads, which pass
@@ -60,7 +62,7 @@ pub fn qu_alone<S: Source, K: Sink>(
 ///
 /// The statuses are those of `qu_alone`. For `live` there is one more, 7: what the threads left behind does not fit
 /// together. Then nothing is written, and the report tells what does not fit. With `live` it may wait for ever.
-#[tactic(auto, unfolding(crate::specs::Command::command_of, crate::specs::Command::usage_text))]
+#[tactic(auto, unfolding(qu_words::specs::Words::command_of, qu_words::specs::Words::usage_text))]
 pub fn qu<R: Threads + Wait + Sync, S: Source, K: Sink, G: Gate>(
     rt: &R,
     alloc: Global,
@@ -72,6 +74,7 @@ pub fn qu<R: Threads + Wait + Sync, S: Source, K: Sink, G: Gate>(
     ensures status { (result.status ≤ 7) × (result.status ≢ 1) }
     ensures few { TakesFew (S.known input.old) (S.known input.new) }
 
+    ensures unread { LeavesInput (command_of (map string_bytes words.now)) → input.new ≡ input.old }
     ensures bad_words { (result.status ≡ 2) ↔ (command_of (map string_bytes words.now) ≡ None) }
     ensures usage { result.status ≡ 2 → (input.new ≡ input.old)
         × WritesOrFails (K.known output.old) (K.known output.new) usage_text }
@@ -85,7 +88,7 @@ pub fn qu<R: Threads + Wait + Sync, S: Source, K: Sink, G: Gate>(
     ensures no_memory { result.status ≡ 6 → output.new ≡ output.old }
     ensures done { result.status ≡ 0 → EndsDone (command_of (map string_bytes words.now))
         (S.known input.old) (S.known input.new) (K.known output.old) (K.known output.new) result.trace }
-    ensures traced { IsTraced result.trace result.status }
+    ensures traced { IsTraced (command_of (map string_bytes words.now)) result.trace result.status }
     ensures headline { IfSome result.trace HasOneHistory }
     ensures torn { IsSome result.torn ↔ (result.status ≡ 7) }
     ensures tears { result.status ≡ 7 →

@@ -1,4 +1,5 @@
 ghost use Rattle.std.specs.Prelude.{OnOk, OnErr};
+ghost use Rattle.qu_io.specs.Streams.{IsCalm};
 ghost use Rattle.qu_cli.specs.Transfer.{Writes, WritesShort, WritesOrFails};
 
 use qu_io::{Failed, Sink};
@@ -6,6 +7,7 @@ use qu_io::{Failed, Sink};
 /// Writes a text. Each call offers all that is left of it.
 pub fn write_text<K: Sink>(output: &mut K, text: &[u8]) -> Result<(), Failed>
     ensures whole { OnOk result (Writes (K.known output.old) (K.known output.new) text.now) }
+    ensures calm { OnOk result (IsCalm (K.known output.old) (K.known output.new)) }
     ensures short { OnErr result (WritesShort (K.known output.old) (K.known output.new) text.now) }
 {
     let mut at = 0;

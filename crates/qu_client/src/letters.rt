@@ -21,7 +21,7 @@ pub fn requests(
     requests_to(alloc, keys, me, keys.bounds().n(), work, whom)
 }
 
-/// The same request to each of so many replicas that is asked, signed for it.
+/// A request to each of so many replicas that is asked, signed for it.
 fn requests_to(
     alloc: Global,
     keys: &KeyRing,

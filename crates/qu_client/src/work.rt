@@ -66,7 +66,7 @@ impl Counted {
         })
     }
 
-    /// The same verdict of the same replica, which is not copied.
+    /// This verdict with its replica, held once more and not copied.
     pub fn share(&self) -> Result<Counted, NoMemory>
         ensures { IfOk result (λ counted. counted ≡ self.now) }
     {
@@ -182,7 +182,7 @@ impl Work {
     }
 }
 
-/// The same verdicts, none of which is copied.
+/// These verdicts, each held once more and not copied.
 fn copies(alloc: Global, replies: &[Counted]) -> Result<List<Counted>, NoMemory>
     ensures { IfOk result (λ copies. copies ≡ replies.now) }
 {

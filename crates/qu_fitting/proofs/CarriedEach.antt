@@ -1,5 +1,5 @@
 -- What a replica makes of an operation, by functions of its objects.
-use Rattle.std.proofs.Common.{◌≡◌, List, [], ◌∷◌, map, Option, Some, refl, ap, ◌∙◌}
+use Rattle.std.proofs.Common.{◌≡◌, ℕ, List, [], ◌∷◌, map, Option, Some, refl, ap, ◌∙◌}
 use Rattle.std.specs.Prelude.{option_map}
 use Rattle.std.specs.List.{AllByRecursion, cons_option}
 use Rattle.qu_base.specs.declared.party.ObjectId.{ObjectId}
@@ -17,12 +17,12 @@ use Rattle.qu_mends.specs.declared.accepted.Accepted.{Accepted}
 use Rattle.qu_rows.specs.declared.decision.Decision.{Decision}
 use Rattle.qu_rows.specs.declared.decision.Decision.TheVariants.{Answers}
 use Rattle.qu_rows.specs.State.{ReplicaState}
-use Rattle.qu_rows.specs.Rows.{Asked, method_base, base_version, base_versions, base_stamps, fresh_stamp, fresh_stamps, accepted_by, row_done, row_told}
+use Rattle.qu_rows.specs.Rows.{Asked, method_base, base_version, base_versions, base_stamps, fresh_stamp, fresh_group, fresh_stamps, accepted_by, row_done, row_told}
 use Rattle.qu_rows.proofs.Accepting.{accepted_cons}
 
--- the candidate that is made upon a base
-abbrev pub fresh_upon : Asked → ObjectId → Candidate → Candidate
-fresh_upon asked object base = record { stamp = fresh_stamp asked object; prior = base.stamp; group = [] }
+-- the candidate that is made upon a base, with this group
+abbrev pub fresh_upon : Asked → List (ObjectId × ℕ) → ObjectId → Candidate → Candidate
+fresh_upon asked group object base = record { stamp = fresh_stamp asked object; prior = base.stamp; group = group }
 
 -- the objects, each with its stamp
 abbrev pub with_stamps : (ObjectId → Stamp) → List ObjectId → List (ObjectId × Stamp)
@@ -62,26 +62,30 @@ module _ (state : ReplicaState) (asked : Asked) (bases : ObjectId → Candidate)
   fresh_each [] are = refl
   fresh_each (object ∷ later) are =
       ap (λ (found : Option Candidate). cons_option (option_map (λ (stamp : Stamp). (object, stamp))
-      (option_map (λ (fresh : Candidate). fresh.stamp) (option_map (fresh_upon asked object) found)))
+      (option_map (λ (base : Candidate). fresh_stamp asked object) found))
       (fresh_stamps state asked later)) are.0
       ∙ ap (λ (stamps : List (ObjectId × Stamp)). (object, fresh_stamp asked object) ∷ stamps)
       (fresh_each later are.1)
 
-  abbrev pub fresh_candidates : ObjectId → Candidate
-  fresh_candidates object = fresh_upon asked object (bases object)
+  -- the candidates of an act on these objects
+  abbrev pub fresh_candidates : List ObjectId → ObjectId → Candidate
+  fresh_candidates objects object = fresh_upon asked (fresh_group asked objects) object (bases object)
 
-  accepts_each : (versions : ObjectId → ObjState) (objects : List ObjectId) → AreBases objects
-      → accepted_by state asked objects (map versions objects) ≡ accepted_each fresh_candidates versions objects
+  accepts_each : (group : List (ObjectId × ℕ)) (versions : ObjectId → ObjState) (objects : List ObjectId)
+      → AreBases objects
+      → accepted_by state asked group objects (map versions objects)
+      ≡ accepted_each (λ object. fresh_upon asked group object (bases object)) versions objects
   unfolding accepted_by
-  accepts_each versions [] are = refl
-  accepts_each versions (object ∷ later) are =
-      accepted_cons state asked object (versions object) (Some (fresh_candidates object)) later (map versions later)
-      (ap (option_map (fresh_upon asked object)) are.0)
+  accepts_each group versions [] are = refl
+  accepts_each group versions (object ∷ later) are =
+      let fresh : Candidate = fresh_upon asked group object (bases object) in
+      accepted_cons state asked group object (versions object) (Some fresh) later (map versions later)
+      (ap (option_map (fresh_upon asked group object)) are.0)
       ∙ ap (λ (accepted : List Accepted). record {
         object = object;
-        candidate = fresh_candidates object;
+        candidate = fresh;
         state = Some (versions object);
-      } ∷ accepted) (accepts_each versions later are.1)
+      } ∷ accepted) (accepts_each group versions later are.1)
 
   -- the versions after an act with these parts
   abbrev pub versions_made : List (ObjectId × Method) → ObjectId → ObjState
@@ -93,25 +97,26 @@ module _ (state : ReplicaState) (asked : Asked) (bases : ObjectId → Candidate)
       → row_done state asked parts (objects_named parts) ≡ Some (Answers
       (Done (with_stamps (fresh_stamp asked) (objects_named parts))
       (performed_answer parts (values_of (map befores (objects_named parts)))))
-      (accepted_each fresh_candidates (versions_made parts) (objects_named parts)))
+      (accepted_each (fresh_candidates (objects_named parts)) (versions_made parts) (objects_named parts)))
   unfolding row_done
   done_each parts apart are_bases are_befores =
       let objects : List ObjectId = objects_named parts in
+      let group : List (ObjectId × ℕ) = fresh_group asked objects in
       let states : List ObjState → List ObjState =
       λ before. performed_states asked.client asked.number parts (map (fresh_stamp asked) objects) before in
       let gives : List (ObjectId × Stamp) → Answer → List Accepted → Option Decision =
       λ stamps answer accepted. Some (Answers (Done stamps answer) accepted) in
       ap (λ (before : List ObjState). gives (fresh_stamps state asked objects)
-      (performed_answer parts (values_of before)) (accepted_by state asked objects (states before)))
+      (performed_answer parts (values_of before)) (accepted_by state asked group objects (states before)))
       (versions_each objects are_befores)
       ∙ ap (λ (stamps : List (ObjectId × Stamp)). gives stamps
       (performed_answer parts (values_of (map befores objects)))
-      (accepted_by state asked objects (states (map befores objects)))) (fresh_each objects are_bases)
+      (accepted_by state asked group objects (states (map befores objects)))) (fresh_each objects are_bases)
       ∙ ap (λ (versions : List ObjState). gives (with_stamps (fresh_stamp asked) objects)
-      (performed_answer parts (values_of (map befores objects))) (accepted_by state asked objects versions))
+      (performed_answer parts (values_of (map befores objects))) (accepted_by state asked group objects versions))
       (states_are asked.client asked.number parts (fresh_stamp asked) befores apart)
       ∙ ap (gives (with_stamps (fresh_stamp asked) objects) (performed_answer parts (values_of (map befores objects))))
-      (accepts_each (versions_made parts) objects are_bases)
+      (accepts_each group (versions_made parts) objects are_bases)
 
   pub told_each : (parts : List (ObjectId × Ask)) → AreBases (objects_named parts) → AreBefores (objects_named parts)
       → row_told state asked parts (objects_named parts) ≡ Some (Answers

@@ -27,7 +27,7 @@ use Rattle.qu_rows.specs.Rows.{Asked, refuse, row_unknown, row_thin}
 use Rattle.qu_mends.specs.Table.{first_given}
 use Rattle.qu_rows.proofs.Own.{own_history}
 use Rattle.qu_fitting.specs.Fits.{StateFits}
-use Rattle.qu_fitting.proofs.RisingObjects.{IsNumbered}
+use Rattle.qu_rows.proofs.RisingObjects.{IsNumbered}
 use Rattle.qu_fitting.proofs.FitStamps.{opening_fits, candidates_fit}
 use Rattle.qu_fitting.proofs.FitVerdicts.{unknown_fits, thin_fits}
 use Rattle.qu_fitting.proofs.FitAccepted.{AcceptAllFit}

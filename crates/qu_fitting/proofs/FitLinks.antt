@@ -16,7 +16,7 @@ use Rattle.qu_kept.specs.Performing.{linked_object, links_to_others, with_links}
 use Rattle.qu_kept.proofs.EachObject.{objects_named}
 use Rattle.qu_kept.proofs.KeyedLaws.{all_with, rising_with, rising_within}
 use Rattle.qu_fitting.proofs.RisingForms.{IsAbove, none_before, rising_fits, all_read, rising_read}
-use Rattle.qu_fitting.proofs.RisingObjects.{IsNumbered}
+use Rattle.qu_rows.proofs.RisingObjects.{IsNumbered}
 
 -- a link to an object that has a number, under a stamp that fits
 pub record LinkFits (link : Link) : Type 0 where

@@ -24,10 +24,10 @@ use Rattle.qu_mends.specs.declared.remedy.Remedy.TheVariants.{Nothing, Shown, Fr
 use Rattle.qu_mends.specs.declared.mend.Mend.{Mend}
 use Rattle.qu_mends.specs.declared.mending.Mending.{Mending}
 use Rattle.qu_mends.specs.declared.mending.Mending.TheVariants.{Mends, Holds, Refuses, Waits}
-use Rattle.qu_mends.specs.Remedy.{MendPart, wanted_by, unless_barrier, member_remedy, remedies_by, remedies_of}
+use Rattle.qu_mends.specs.Remedy.{MendPart, base_on, made_group, wanted_by, unless_barrier, member_remedy, remedies_by, remedies_of}
 use Rattle.qu_mends.specs.Mending.{missing_in}
 use Rattle.qu_mends.specs.Causes.{RefusesFor, IsPartAdded, ArePartsAdded, IsToldOf, HasCause}
-use Rattle.qu_mends.proofs.Members.{group_is_whole}
+use Rattle.qu_mends.proofs.Members.{IsPlain, group_is_whole, group_plain}
 use Rattle.qu_rows.specs.State.{ReplicaState}
 use Rattle.qu_rows.specs.Rows.{Asked, refuse, shown_of, row_few, mend_asked, part_of, mending_on, decision_by, decide_repair}
 use Rattle.qu_rows.proofs.MendedObjects.{mending_has_cause}
@@ -35,7 +35,8 @@ use Rattle.qu_versions.specs.Versions.{version_at}
 use Rattle.qu_fitting.specs.Fits.{VersionFits, StateFits}
 use Rattle.qu_fitting.proofs.FitStamps.{CandidateFits, shown_fit, plain_fits}
 use Rattle.qu_fitting.proofs.FitVerdicts.{thin_fits, needs_fits, time_fits, full_fits, current_fits, sound_fits, mended_fits}
-use Rattle.qu_fitting.proofs.FitRepairs.{base_fits, remedy_fits, made_fits, stored_version_fits, RemedyFits}
+use Rattle.qu_fitting.proofs.FitRepairs.{alike_fits, remedy_fits, made_fits, made_stamp_fits, stored_version_fits, RemedyFits, GroupFits}
+use Rattle.qu_fitting.proofs.FitCopies.{MemberFits, alone_made_fits, made_groups_fit}
 use Rattle.qu_fitting.proofs.FitAccepted.{version_fits, AcceptFits, AcceptAllFit}
 use Rattle.qu_fitting.proofs.FitDecisions.{AskedFits, DecisionFits, Gives, past, no_row, found_has, own_fits, unknown, thin, KeyFits}
 
@@ -64,36 +65,44 @@ numbered_member least member is =
     omega (arith, below)
 
 module _ (state : ReplicaState) (asked : Asked) (fits : StateFits state) (asks : AskedFits asked) where
-  -- an object has a number, and what mends it fits
-  abbrev MendedFits : ObjectId × Remedy → Type 0
-  MendedFits mended =
-      ((mended.0).0 ≤ OBJECT_IDS - 1) × RemedyFits mended.0 (latest_of (shown_of asked mended.0)) mended.1
+  -- an object has a number, and what mends it fits, also with this group of what is made
+  module _ (made : List (ObjectId × ℕ)) where
+    abbrev MendedFits : ObjectId × Remedy → Type 0
+    MendedFits mended =
+        ((mended.0).0 ≤ OBJECT_IDS - 1) × RemedyFits mended.0 (latest_of (shown_of asked mended.0)) mended.1
+        × GroupFits made mended.0 (latest_of (shown_of asked mended.0)) mended.1
 
-  abbrev AllMendedFit : List (ObjectId × Remedy) → Type 0
-  AllMendedFit remedies = AllByRecursion MendedFits remedies
+    abbrev AllMendedFit : List (ObjectId × Remedy) → Type 0
+    AllMendedFit remedies = AllByRecursion MendedFits remedies
 
-  members_fit_from : (bounds least : ℕ) (group : List (ObjectId × ℕ)) → are_members_from least group ≡ true
-      → AllMendedFit (map (member_remedy bounds asked.sets) group)
-  unfolding are_members_from
-  members_fit_from bounds least [] rise = tt
-  members_fit_from bounds least (member ∷ later) rise =
-      let both = and_parts (is_member_from least member) (are_members_from ((member.0).0 + 1) later) rise in (
-        (
-          numbered_member least member both.0,
-          (base_fits bounds member.0 (entries_of member.0 asked.sets)
-              (shown_fit asked.sets asks.sets member.0)).candidate,
-        ),
-        members_fit_from bounds ((member.0).0 + 1) later both.1,
-      )
+    members_fit_from : (bounds : ℕ) (remedy : Remedy) (least : ℕ) (group : List (ObjectId × ℕ))
+        → are_members_from least group ≡ true → AllByRecursion (MemberFits asked bounds made remedy) group
+        → AllMendedFit (map (member_remedy bounds asked.sets remedy) group)
+    unfolding are_members_from
+    members_fit_from bounds remedy least [] rise grouped = tt
+    members_fit_from bounds remedy least (member ∷ later) rise grouped =
+        let both = and_parts (is_member_from least member) (are_members_from ((member.0).0 + 1) later) rise in (
+          (
+            numbered_member least member both.0,
+            alike_fits bounds member.0 (entries_of member.0 asked.sets) (shown_fit asked.sets asks.sets member.0)
+                remedy,
+            grouped.0,
+          ),
+          members_fit_from bounds remedy ((member.0).0 + 1) later both.1 grouped.1,
+        )
 
   remedies_fit : (bounds : ℕ) (target : ObjectId) (remedy : Remedy) (group : List (ObjectId × ℕ))
-      → is_group group ≡ true → MendedFits (target, remedy)
-      → AllMendedFit (remedies_by bounds asked.sets target remedy group)
+      → is_group group ≡ true → target.0 ≤ OBJECT_IDS - 1
+      → RemedyFits target (latest_of (shown_of asked target)) remedy
+      → ((member : ObjectId × ℕ) (later : List (ObjectId × ℕ)) → group ≡ member ∷ later → IsPlain remedy)
+      → AllMendedFit (made_group asked.sets group) (remedies_by bounds asked.sets target remedy group)
   unfolding remedies_by is_group
-  remedies_fit bounds target remedy [] is fit = (fit, tt)
-  remedies_fit bounds target remedy (member ∷ later) is fit =
-      members_fit_from bounds 0 (member ∷ later)
+  remedies_fit bounds target remedy [] is within fit plain =
+      ((within, fit, alone_made_fits target (latest_of (shown_of asked target)) remedy), tt)
+  remedies_fit bounds target remedy (member ∷ later) is within fit plain =
+      members_fit_from (made_group asked.sets (member ∷ later)) bounds remedy 0 (member ∷ later)
       (and_parts (is_group_size (length (member ∷ later))) (are_members_from 0 (member ∷ later)) is).1
+      (made_groups_fit asked bounds remedy (plain member later refl) (member ∷ later) is)
 
   -- ---- what the replica has of each
 
@@ -103,11 +112,11 @@ module _ (state : ReplicaState) (asked : Asked) (fits : StateFits state) (asks :
   abbrev HasFit : MendPart → Type 0
   HasFit part = ((part.object).0 ≤ OBJECT_IDS - 1) × stamp_form.Fits (latest part.own)
 
-  parts_fit : (remedies : List (ObjectId × Remedy)) → AllMendedFit remedies
+  parts_fit : (made : List (ObjectId × ℕ)) (remedies : List (ObjectId × Remedy)) → AllMendedFit made remedies
       → AllByRecursion HasFit (parts_by remedies)
-  parts_fit [] all = tt
-  parts_fit (mended ∷ later) all =
-      (((all.0).0, own_fits state asked fits asks mended.0), parts_fit later all.1)
+  parts_fit made [] all = tt
+  parts_fit made (mended ∷ later) all =
+      (((all.0).0, own_fits state asked fits asks mended.0), parts_fit made later all.1)
 
   found_fits : (object : ObjectId) (wanted : Option Stamp)
       → IfSome (option_and_then (λ (stamp : Stamp). version_at object stamp state.versions) wanted) VersionFits
@@ -128,13 +137,13 @@ module _ (state : ReplicaState) (asked : Asked) (fits : StateFits state) (asks :
   by_key object within None None fit rest so_far = so_far
   by_key object within None (Some stamp) fit rest so_far = (record { object = within; stamp = fit }, so_far)
 
-  missing_fit : (remedies : List (ObjectId × Remedy)) → AllMendedFit remedies
+  missing_fit : (made : List (ObjectId × ℕ)) (remedies : List (ObjectId × Remedy)) → AllMendedFit made remedies
       → AllByRecursion KeyFits (missing_in (parts_by remedies))
-  missing_fit [] all = tt
-  missing_fit (mended ∷ later) all =
+  missing_fit made [] all = tt
+  missing_fit made (mended ∷ later) all =
       by_key mended.0 (all.0).0 (part_of state asked mended).version (wanted_by mended.1)
       (wanted_fits mended.0 (part_of state asked mended).latest mended.1 (all.0).1)
-      (missing_in (parts_by later)) (missing_fit later all.1)
+      (missing_in (parts_by later)) (missing_fit made later all.1)
 
   -- ---- what is decided
 
@@ -158,29 +167,30 @@ module _ (state : ReplicaState) (asked : Asked) (fits : StateFits state) (asks :
     abbrev remedies : List (ObjectId × Remedy)
     remedies = remedies_of state.keys.bounds asked.sets mend
 
-    all_fit : AllMendedFit remedies
+    all_fit : AllMendedFit mend.made remedies
     all_fit =
         remedies_fit state.keys.bounds object mend.remedy mend.group
-        (group_is_whole (class_in state.keys.bounds asked.sets object)) (within, mend_fits)
+        (group_is_whole (base_on state.keys.bounds asked.sets object) (class_in state.keys.bounds asked.sets object)
+        mend.remedy) within mend_fits (group_plain state.keys.bounds asked.sets object)
 
     why_fits : (why : Refusal) → RefusesFor mend (parts_by remedies) why → verdict_form.Fits (Refused why)
     why_fits (NotCurrent on stamp) cause =
         let fit : HasFit cause.0 =
-        found_has HasFit _ (parts_by remedies) (parts_fit remedies all_fit) cause.0 cause.1 in
+        found_has HasFit _ (parts_by remedies) (parts_fit mend.made remedies all_fit) cause.0 cause.1 in
         subst (λ (it : ObjectId). verdict_form.Fits (Refused (NotCurrent it stamp))) (sym cause.2)
         (current_fits (cause.0).object fit.0 stamp (subst (λ (it : Stamp). stamp_form.Fits it) (sym cause.3) fit.1))
     why_fits (Sound on) cause =
         subst (λ (it : ObjectId). verdict_form.Fits (Refused (Sound it))) (sym cause.0) (sound_fits object within)
     why_fits (TimeSpent on) (inl cause) =
         let fit : HasFit cause.0 =
-        found_has HasFit _ (parts_by remedies) (parts_fit remedies all_fit) cause.0 cause.1 in
+        found_has HasFit _ (parts_by remedies) (parts_fit mend.made remedies all_fit) cause.0 cause.1 in
         subst (λ (it : ObjectId). verdict_form.Fits (Refused (TimeSpent it))) (sym cause.2)
         (time_fits (cause.0).object fit.0)
     why_fits (TimeSpent on) (inr cause) =
         subst (λ (it : ObjectId). verdict_form.Fits (Refused (TimeSpent it))) (sym cause.0) (time_fits object within)
     why_fits (HistoryFull on) cause =
         let fit : HasFit cause.0 =
-        found_has HasFit _ (parts_by remedies) (parts_fit remedies all_fit) cause.0 cause.1 in
+        found_has HasFit _ (parts_by remedies) (parts_fit mend.made remedies all_fit) cause.0 cause.1 in
         subst (λ (it : ObjectId). verdict_form.Fits (Refused (HistoryFull it))) (sym cause.2)
         (full_fits (cause.0).object fit.0)
     why_fits (Thin on) cause = absurd cause
@@ -196,14 +206,14 @@ module _ (state : ReplicaState) (asked : Asked) (fits : StateFits state) (asks :
     told_fits : (stamp : Stamp) → IsToldOf mend stamp → stamp_form.Fits stamp
     told_fits stamp told =
         subst (λ (it : Stamp). stamp_form.Fits it) told.2
-        (made_fits mend object asks.low asks.high asks.set mend.latest mend.remedy told.0 mend_fits told.1).stamp
+        (made_stamp_fits mend object asks.low asks.high asks.set mend.latest mend.remedy told.0 mend_fits told.1)
 
-    added_fits : (mended : ObjectId × Remedy) (one : Accepted) → MendedFits mended
+    added_fits : (mended : ObjectId × Remedy) (one : Accepted) → MendedFits mend.made mended
         → IsPartAdded mend (part_of state asked mended) one → AcceptFits one
     added_fits mended one fit added =
         let part : MendPart = part_of state asked mended in
         let made : CandidateFits mended.0 one.candidate =
-        made_fits mend mended.0 asks.low asks.high asks.set part.latest mended.1 one.candidate fit.1 added.makes in
+        made_fits mend mended.0 asks.low asks.high asks.set part.latest mended.1 one.candidate fit.1 fit.2 added.makes in
         record {
           stamp = made.stamp;
           prior = made.prior;
@@ -213,7 +223,7 @@ module _ (state : ReplicaState) (asked : Asked) (fits : StateFits state) (asks :
               added.version;
         }
 
-    all_added_fit : (some : List (ObjectId × Remedy)) (accepted : List Accepted) → AllMendedFit some
+    all_added_fit : (some : List (ObjectId × Remedy)) (accepted : List Accepted) → AllMendedFit mend.made some
         → ArePartsAdded mend (parts_by some) accepted → AcceptAllFit accepted
     all_added_fit [] [] all added = tt
     all_added_fit [] (one ∷ more) all added = absurd added
@@ -227,7 +237,7 @@ module _ (state : ReplicaState) (asked : Asked) (fits : StateFits state) (asks :
     caused_fits (Holds stamp) cause = (mended_fits object within stamp (told_fits stamp cause.0), tt)
     caused_fits (Refuses why) cause = (why_fits why cause, tt)
     caused_fits (Waits missing) cause =
-        subst (AllByRecursion KeyFits) (sym cause.0) (missing_fit remedies all_fit)
+        subst (AllByRecursion KeyFits) (sym cause.0) (missing_fit mend.made remedies all_fit)
 
     mended : Gives (Some (decision_by object (mending_on state asked object)))
     mended decision given =

@@ -1,5 +1,5 @@
 -- What a replica decides upon an act or a query that fits, fits: its verdict, and the candidates that it accepts.
-use Rattle.std.proofs.Common.{◌≡◌, ◌+◌, ◌<◌, ◌≤◌, Bool, true, false, cond, List, [], ◌∷◌, ◌∙◌, length, map, Option, None, Some, refl, sym, ap, subst, arith}
+use Rattle.std.proofs.Common.{◌≡◌, ℕ, ◌+◌, ◌<◌, ◌≤◌, Bool, true, false, cond, List, [], ◌∷◌, ◌∙◌, length, map, Option, None, Some, refl, sym, ap, subst, arith}
 use Rattle.std.specs.Prelude.{◌==◌, nat_le, find, option_map, option_and_then, unwrap_or}
 use Rattle.std.specs.List.{AllByRecursion, list_all, filter_map, cons_option, filter}
 use Rattle.std.proofs.lemmas.Bool.{and_parts, false≢true, leb-false, cond_both}
@@ -11,8 +11,7 @@ use Rattle.qu_stamp.specs.declared.limits.TheConstants.{LAST_TIME}
 use Rattle.qu_stamp.specs.declared.candidate.Candidate.{Candidate}
 use Rattle.qu_stamp.specs.Candidate.{opening}
 use Rattle.qu_stamp.specs.Stamp.{is_below}
-use Rattle.qu_stamp.specs.Formats.{stamp_form}
-use Rattle.qu_stamp.proofs.Forms.{alone_fits}
+use Rattle.qu_stamp.specs.Formats.{stamp_form, group_form}
 use Rattle.qu_stamp.proofs.Order.{is_below_by_time}
 use Rattle.qu_history.specs.History.{holds}
 use Rattle.qu_history.specs.Sets.{latest_of}
@@ -38,7 +37,7 @@ use Rattle.qu_versions.specs.Versions.{version_at}
 use Rattle.qu_rows.specs.declared.decision.Decision.{Decision}
 use Rattle.qu_rows.specs.declared.decision.Decision.TheVariants.{Waits}
 use Rattle.qu_rows.specs.State.{ReplicaState, own_candidates, own_latest}
-use Rattle.qu_rows.specs.Rows.{Asked, refuse_first, shown_of, method_base, base_version, base_versions, base_stamps, fresh_stamp, fresh_act, fresh_stamps, fresh_versions, standing_in, done_again, repeated, row_retry, is_held, row_current, row_method, row_version, row_kept, row_time, row_full, row_done, row_told, class_told, decide_act, decide_ask}
+use Rattle.qu_rows.specs.Rows.{Asked, refuse_first, shown_of, method_base, base_version, base_versions, base_stamps, fresh_stamp, fresh_group, fresh_act, fresh_stamps, fresh_versions, standing_in, done_again, repeated, row_retry, is_held, row_current, row_method, row_version, row_kept, row_time, row_full, row_done, row_told, class_told, decide_act, decide_ask}
 use Rattle.qu_rows.proofs.Allowed.{none_refused}
 use Rattle.qu_rows.proofs.Carried.{fresh_on-stamp}
 use Rattle.qu_rows.proofs.Held.{is_held_by, own_in_time}
@@ -46,13 +45,15 @@ use Rattle.qu_fitting.specs.Fits.{ValueFits, RowFits, VersionFits, StateFits}
 use Rattle.qu_fitting.proofs.CarriedEach.{fresh_upon, with_stamps, accepted_each, fresh_candidates, versions_made, AreBases, AreBefores, done_each, fresh_each, told_each}
 use Rattle.qu_fitting.proofs.FitAccepted.{AcceptAllFit, version_fits}
 use Rattle.qu_fitting.proofs.FitDecisions.{AskedFits, KeyFits, DecisionFits, Gives, past, no_row, refusing, found_has, own_fits, unknown, thin}
+use Rattle.qu_fitting.proofs.FitGroups.{fresh_groups_fit}
 use Rattle.qu_fitting.proofs.FitLinks.{links-read, links-fit, others_fit, links_with}
 use Rattle.qu_fitting.proofs.FitStamps.{CandidateFits, stamp_fits, later_time, not_opening, prior_fits, shown_fit, base_latest, base_shown, plain_fits}
 use Rattle.qu_fitting.proofs.FitStandings.{StandingFits, standing_in-fits}
 use Rattle.qu_fitting.proofs.FitVerdicts.{time_fits, full_fits, method_fits, current_fits, spent_fits, stamps_fit, done_fits, told_fits, already_fits, performed_fits, values_fitting, read_fits}
 use Rattle.qu_fitting.proofs.FitVersions.{act_sized}
 use Rattle.qu_fitting.proofs.PassedRows.{each_weaker, base_of, before_of, passed_method, passed_version}
-use Rattle.qu_fitting.proofs.RisingObjects.{IsNumbered, PartsRise, all_numbered, all_distinct}
+use Rattle.qu_rows.proofs.RisingObjects.{IsNumbered, all_numbered, all_distinct}
+use Rattle.qu_fitting.proofs.RisingParts.{PartsRise}
 
 -- ---- what is found of each object
 
@@ -162,10 +163,19 @@ module _ (state : ReplicaState) (asked : Asked) (fits : StateFits state) (asks :
   base_fits object base is =
       (shown_fit asked.sets asks.sets object base (base_shown state.keys.bounds (shown_of asked object) base is)).stamp
 
+  fresh_fits : (object : ObjectId) → (latest_of (shown_of asked object)).time + 1 ≤ LAST_TIME
+      → stamp_form.Fits (fresh_stamp asked object)
+  fresh_fits object in_time =
+      let fresh : Stamp = fresh_stamp asked object in
+      stamp_fits fresh.time asked.client asked.act asked.set (later_time (latest_of (shown_of asked object)).time)
+      in_time asks.low asks.high asks.act asks.set
+
   -- a candidate that is made upon a base
-  upon_fits : (object : ObjectId) (base : Candidate) → method_base state asked object ≡ Some base
-      → (latest_of (shown_of asked object)).time + 1 ≤ LAST_TIME → CandidateFits object (fresh_upon asked object base)
-  upon_fits object base is in_time =
+  upon_fits : (group : List (ObjectId × ℕ)) (object : ObjectId) (base : Candidate)
+      → method_base state asked object ≡ Some base → (latest_of (shown_of asked object)).time + 1 ≤ LAST_TIME
+      → (group_form object (fresh_stamp asked object)).Fits group
+      → CandidateFits object (fresh_upon asked group object base)
+  upon_fits group object base is in_time whole =
       let fresh : Stamp = fresh_stamp asked object in
       let above : (fresh.time == 0) ≡ false = later_time (latest_of (shown_of asked object)).time in
       let latest : base.stamp ≡ latest_of (shown_of asked object) =
@@ -173,11 +183,10 @@ module _ (state : ReplicaState) (asked : Asked) (fits : StateFits state) (asks :
       let time : base.stamp.time ≡ (latest_of (shown_of asked object)).time = ap (λ (it : Stamp). it.time) latest in
       let below : is_below base.stamp fresh ≡ true = is_below_by_time base.stamp fresh (omega (arith, time)) in
       record {
-        stamp = stamp_fits fresh.time asked.client asked.act asked.set above in_time asks.low asks.high asks.act
-            asks.set;
+        stamp = fresh_fits object in_time;
         prior = prior_fits fresh base.stamp (not_opening fresh above) (base_fits object base is) below
             (method_at_plain state.keys.bounds (shown_of asked object) base is);
-        group = alone_fits object fresh;
+        group = whole;
       }
 
   found_fits : (object : ObjectId) (found : Option Candidate) (version : ObjState)
@@ -191,29 +200,30 @@ module _ (state : ReplicaState) (asked : Asked) (fits : StateFits state) (asks :
   before_fits object version is = found_fits object (method_base state asked object) version is
 
   -- a fresh candidate that is held has a base, and a time up to the last
-  held_from : (object : ObjectId) (found : Option Candidate) → fresh_act state asked object ≡ found
-      → is_held_by state object found ≡ true → (fresh : Candidate) × (fresh_act state asked object ≡ Some fresh)
+  held_from : (group : List (ObjectId × ℕ)) (object : ObjectId) (found : Option Candidate)
+      → fresh_act state asked group object ≡ found → is_held_by state object found ≡ true
+      → (fresh : Candidate) × (fresh_act state asked group object ≡ Some fresh)
       × (holds fresh (own_candidates state object) ≡ true)
-  held_from object None is holding = absurd (false≢true holding)
-  held_from object (Some fresh) is holding = (fresh, is, holding)
+  held_from group object None is holding = absurd (false≢true holding)
+  held_from group object (Some fresh) is holding = (fresh, is, holding)
 
-  based : (object : ObjectId) (found : Option Candidate) (fresh : Candidate)
-      → option_map (fresh_upon asked object) found ≡ Some fresh → found ≡ Some (unwrap_or found opening)
-  based object None fresh made = absurd (none-some fresh made)
-  based object (Some base) fresh made = refl
+  based : (group : List (ObjectId × ℕ)) (object : ObjectId) (found : Option Candidate) (fresh : Candidate)
+      → option_map (fresh_upon asked group object) found ≡ Some fresh → found ≡ Some (unwrap_or found opening)
+  based group object None fresh made = absurd (none-some fresh made)
+  based group object (Some base) fresh made = refl
 
-  held_fits : (object : ObjectId) → is_held state asked object ≡ true
+  held_fits : (group : List (ObjectId × ℕ)) (object : ObjectId) → is_held state asked group object ≡ true
       → (method_base state asked object ≡ Some (base_of state asked object))
       × stamp_form.Fits (fresh_stamp asked object)
   unfolding is_held
-  held_fits object holding =
-      let held = held_from object (fresh_act state asked object) refl holding in
-      let is_base : method_base state asked object ≡ Some (base_of state asked object) =
-      based object (method_base state asked object) held.0 held.1 in
+  held_fits group object holding =
+      let held = held_from group object (fresh_act state asked group object) refl holding in
       let last : ((held.0).stamp).time ≤ LAST_TIME = own_in_time state object held.0 fits.own held.2 in
       let time_is : (latest_of (shown_of asked object)).time + 1 ≡ ((held.0).stamp).time =
-      ap (λ (it : Stamp). it.time) (fresh_on-stamp state asked object held.0 held.1) in
-      (is_base, (upon_fits object (base_of state asked object) is_base (omega (arith, time_is, last))).stamp)
+      ap (λ (it : Stamp). it.time) (fresh_on-stamp state asked group object held.0 held.1) in (
+        based group object (method_base state asked object) held.0 held.1,
+        fresh_fits object (omega (arith, time_is, last)),
+      )
 
   -- ---- the rows, of objects that have numbers
 
@@ -283,15 +293,15 @@ module _ (state : ReplicaState) (asked : Asked) (fits : StateFits state) (asks :
     retry : Gives (row_retry state asked parts objects)
     unfolding row_retry
     retry = if_given _ _ (λ all.
-        let held : AllByRecursion (λ object. is_held state asked object ≡ true) objects =
-        each_true (is_held state asked) objects all in
+        let is_held_so : ObjectId → Bool = is_held state asked (fresh_group asked objects) in
+        let held : AllByRecursion (λ object. is_held_so object ≡ true) objects = each_true is_held_so objects all in
         let bases : AreBases state asked (base_of state asked) (before_of state asked) objects =
-        each_weaker (λ object. is_held state asked object ≡ true)
+        each_weaker (λ object. is_held_so object ≡ true)
         (λ object. method_base state asked object ≡ Some (base_of state asked object)) objects
-        (λ object is. (held_fits object is).0) held in
+        (λ object is. (held_fits (fresh_group asked objects) object is).0) held in
         let stamps : AllByRecursion (λ object. stamp_form.Fits (fresh_stamp asked object)) objects =
-        each_weaker (λ object. is_held state asked object ≡ true)
-        (λ object. stamp_form.Fits (fresh_stamp asked object)) objects (λ object is. (held_fits object is).1) held in
+        each_weaker (λ object. is_held_so object ≡ true) (λ object. stamp_form.Fits (fresh_stamp asked object)) objects
+        (λ object is. (held_fits (fresh_group asked objects) object is).1) held in
         again_fits (fresh_stamps state asked objects)
         (subst (λ (it : List (ObjectId × Stamp)). stamps_form.Fits it)
         (sym (fresh_each state asked (base_of state asked) (before_of state asked) objects bases))
@@ -323,16 +333,27 @@ module _ (state : ReplicaState) (asked : Asked) (fits : StateFits state) (asks :
           (λ object. (latest_of (shown_of asked object)).time < LAST_TIME) objects
           (λ object not_spent. leb-false _ _ not_spent) (none_refused _ TimeSpent objects is_time)
 
-      candidates : AllByRecursion (λ object.
-          CandidateFits object (fresh_upon asked object (base_of state asked object))) objects
+      -- the candidate of an object
+      abbrev fresh : ObjectId → Candidate
+      fresh = fresh_candidates state asked (base_of state asked) (before_of state asked) objects
+
+      abbrev GroupFits : ObjectId → Type 0
+      GroupFits object = (group_form object (fresh_stamp asked object)).Fits (fresh_group asked objects)
+
+      candidates : AllByRecursion (λ object. CandidateFits object (fresh object)) objects
       candidates = all_both (λ object. method_base state asked object ≡ Some (base_of state asked object))
-          (λ object. (latest_of (shown_of asked object)).time < LAST_TIME)
-          (λ object. CandidateFits object (fresh_upon asked object (base_of state asked object)))
-          (λ object is below. upon_fits object (base_of state asked object) is (omega (arith, below))) objects bases
-          in_time
+          (λ object. ((latest_of (shown_of asked object)).time < LAST_TIME) × GroupFits object)
+          (λ object. CandidateFits object (fresh object))
+          (λ object is with_group. let below : (latest_of (shown_of asked object)).time < LAST_TIME = with_group.0
+          in upon_fits (fresh_group asked objects) object (base_of state asked object) is (omega (arith, below))
+          with_group.1) objects bases
+          (all_both (λ object. (latest_of (shown_of asked object)).time < LAST_TIME) GroupFits
+          (λ object. ((latest_of (shown_of asked object)).time < LAST_TIME) × GroupFits object)
+          (λ object below whole. (below, whole)) objects in_time
+          (fresh_groups_fit asked parts rise in_time))
 
       stamps : AllByRecursion (λ object. stamp_form.Fits (fresh_stamp asked object)) objects
-      stamps = each_weaker (λ object. CandidateFits object (fresh_upon asked object (base_of state asked object)))
+      stamps = each_weaker (λ object. CandidateFits object (fresh object))
           (λ object. stamp_form.Fits (fresh_stamp asked object)) objects (λ object made. made.stamp) candidates
 
       abbrev values : List Value
@@ -402,7 +423,7 @@ module _ (state : ReplicaState) (asked : Asked) (fits : StateFits state) (asks :
                 (stamps_fit (fresh_stamp asked) parts rise stamps)
                 (performed_fits parts rise sized (values_of (map (before_of state asked) objects))
                 (values_named (before_of state asked) parts versions) (many_named (before_of state asked) parts)),
-            accept_each (fresh_candidates state asked (base_of state asked) (before_of state asked))
+            accept_each fresh
                 (versions_made state asked (base_of state asked) (before_of state asked) parts) objects candidates made,
           )
 

@@ -1,5 +1,5 @@
 -- What mends an object fits, where all fits that the entries show of it.
-use Rattle.std.proofs.Common.{◌≡◌, ℕ, ◌-◌, ◌<◌, ◌≤◌, Bool, true, false, not, ◌&&◌, cond, Option, None, Some, List, [], ◌∷◌, find, length, inl, inr, refl, sym, subst, ◌∙◌, arith}
+use Rattle.std.proofs.Common.{◌≡◌, ℕ, ◌+◌, ◌-◌, ◌<◌, ◌≤◌, Bool, true, false, not, ◌&&◌, cond, Option, None, Some, List, [], ◌∷◌, find, length, inl, inr, refl, sym, subst, ◌∙◌, arith}
 use Rattle.std.specs.Prelude.{◌==◌, IfSome, unwrap_or, option_map}
 use Rattle.std.proofs.lemmas.Bool.{cases_lt, false≢true}
 use Rattle.std.proofs.lemmas.Option.{none-some, same_Some}
@@ -12,7 +12,6 @@ use Rattle.qu_stamp.specs.Stamp.{is_below}
 use Rattle.qu_stamp.specs.Candidate.{opening}
 use Rattle.qu_base.specs.declared.party.ObjectId.{ObjectId}
 use Rattle.qu_stamp.specs.Formats.{stamp_form, member_form, after_member, members_form, group_form}
-use Rattle.qu_stamp.proofs.Forms.{alone_fits}
 use Rattle.qu_stamp.proofs.Order.{is_below_by_time}
 use Rattle.qu_history.specs.History.{ObjectHistory, holds}
 use Rattle.qu_history.specs.declared.sets.SetOf.{SetOf}
@@ -23,12 +22,12 @@ use Rattle.qu_class.specs.declared.class.Class.{Class}
 use Rattle.qu_class.specs.declared.class.Class.TheVariants.{Method, InlineMethod, Copy, InlineBarrier, Barrier, Needs}
 use Rattle.qu_class.specs.Repairable.{barrier_candidate, object_base}
 use Rattle.qu_class.specs.Class.{is_latest, is_full, barrier_class, class_of, is_in_sets, with_members, class_in}
-use Rattle.qu_class.specs.Plan.{lowest_other}
+use Rattle.qu_class.specs.Plan.{joins, first_apart}
 use Rattle.qu_class.proofs.GroupRule.{inline_by}
 use Rattle.qu_mends.specs.declared.remedy.Remedy.{Remedy}
 use Rattle.qu_mends.specs.declared.remedy.Remedy.TheVariants.{Nothing, Shown, Fresh, Unshown, Unplanned}
 use Rattle.qu_mends.specs.declared.mend.Mend.{Mend}
-use Rattle.qu_mends.specs.Remedy.{copy_by, remedy_by, remedy_of, fresh_repair}
+use Rattle.qu_mends.specs.Remedy.{alike, copy_by, remedy_by, remedy_of, fresh_repair}
 use Rattle.qu_mends.specs.Causes.{MakesCandidate, AddsVersion}
 use Rattle.qu_fitting.specs.Fits.{VersionFits}
 use Rattle.qu_fitting.proofs.FitStamps.{CandidateFits, CandidatesFit, opening_candidate_fits, object_candidate_shown, barrier_candidate_shown, actless_stamp_fits, prior_fits, not_opening, later_time}
@@ -47,6 +46,12 @@ RemedyFits object latest (Shown candidate) = CandidateFits object candidate
 RemedyFits object latest (Fresh barrier prior) = RestsWell latest prior
 RemedyFits object latest (Unshown member) = member.0 ≤ OBJECT_IDS - 1
 RemedyFits object latest (Unplanned other) = other.0 ≤ OBJECT_IDS - 1
+
+-- the group of what is made together fits a candidate that is made on the object
+abbrev pub GroupFits : List (ObjectId × ℕ) → ObjectId → Stamp → Remedy → Type 0
+GroupFits made object latest (Fresh barrier prior) =
+    (stamp : Stamp) → stamp.time ≡ latest.time + 1 → stamp.barrier ≡ barrier → (group_form object stamp).Fits made
+GroupFits made object latest _ = Unit {0}
 
 -- ---- the members of a group have numbers
 
@@ -163,20 +168,30 @@ module _ (bounds : ℕ) (object : ObjectId) (entries : List ObjectHistory)
   members_fit sets (Barrier prior) fit = fit
   members_fit sets (Needs member) fit = fit
 
-  copy_fits : (other : Option ObjectId) → lowest_other object base.group ≡ other
-      → RemedyFits object (latest_of entries) (copy_by base.stamp other)
-  copy_fits None is = base_fits.rests
-  copy_fits (Some other) is =
-      numbered object base base_fits.candidate (λ it. not ((it.0).0 == object.0)) other is
+  module _ (sets : List SetOf) where
+    copy_fits : (other : Option ObjectId) → first_apart bounds sets base ≡ other
+        → RemedyFits object (latest_of entries) (copy_by base.stamp other)
+    copy_fits None is = base_fits.rests
+    copy_fits (Some other) is =
+        numbered object base base_fits.candidate (λ it. not (joins bounds sets base it)) other is
 
-  by_class : (class : Class) → ClassFits class → RemedyFits object (latest_of entries) (remedy_by object base class)
-  unfolding remedy_by
-  by_class (Method candidate) fit = tt
-  by_class (InlineMethod candidate) fit = fit.candidate
-  by_class Copy fit = copy_fits (lowest_other object base.group) refl
-  by_class (InlineBarrier candidate) fit = fit
-  by_class (Barrier prior) fit = fit
-  by_class (Needs member) fit = fit
+    by_class : (class : Class) → ClassFits class
+        → RemedyFits object (latest_of entries) (remedy_by (first_apart bounds sets base) base class)
+    unfolding remedy_by
+    by_class (Method candidate) fit = tt
+    by_class (InlineMethod candidate) fit = fit.candidate
+    by_class Copy fit = copy_fits (first_apart bounds sets base) refl
+    by_class (InlineBarrier candidate) fit = fit
+    by_class (Barrier prior) fit = fit
+    by_class (Needs member) fit = fit
+
+  -- a member's object candidate is copied, or added as it is
+  pub alike_fits : (remedy : Remedy) → RemedyFits object (latest_of entries) (alike remedy base)
+  alike_fits Nothing = base_fits.candidate
+  alike_fits (Shown candidate) = base_fits.candidate
+  alike_fits (Fresh barrier prior) = base_fits.rests
+  alike_fits (Unshown member) = base_fits.candidate
+  alike_fits (Unplanned other) = base_fits.candidate
 
 pub remedy_fits : (bounds : ℕ) (sets : List SetOf) (object : ObjectId)
     → CandidatesFit object (candidates_of (entries_of object sets))
@@ -184,7 +199,7 @@ pub remedy_fits : (bounds : ℕ) (sets : List SetOf) (object : ObjectId)
 unfolding remedy_of class_in
 remedy_fits bounds sets object fits =
     let entries : List ObjectHistory = entries_of object sets in
-    by_class bounds object entries fits (class_in bounds sets object)
+    by_class bounds object entries fits sets (class_in bounds sets object)
     (members_fit bounds object entries fits sets (class_of bounds entries)
     (class_fits bounds object entries fits))
 
@@ -192,27 +207,45 @@ remedy_fits bounds sets object fits =
 
 module _ (mend : Mend) (object : ObjectId) (low : 1 ≤ (mend.client).0) (high : (mend.client).0 ≤ LAST_CLIENT)
     (sized : length (mend.set).0 ≡ 32) where
-  fresh_fits : (latest : Stamp) (barrier : Bool) (prior : Stamp) → RestsWell latest prior → latest.time < LAST_TIME
+  fresh_stamp_fits : (latest : Stamp) (barrier : Bool) (prior : Stamp) → latest.time < LAST_TIME
+      → stamp_form.Fits (fresh_repair mend latest barrier prior).stamp
+  fresh_stamp_fits latest barrier prior in_time =
+      actless_stamp_fits (latest.time + 1) barrier mend.client mend.set (later_time latest.time)
+      (omega (arith, in_time)) low high sized
+
+  fresh_fits : (latest : Stamp) (barrier : Bool) (prior : Stamp) → RestsWell latest prior
+      → GroupFits mend.made object latest (Fresh barrier prior) → latest.time < LAST_TIME
       → CandidateFits object (fresh_repair mend latest barrier prior)
-  fresh_fits latest barrier prior rests in_time =
+  fresh_fits latest barrier prior rests grouped in_time =
       let fresh : Stamp = (fresh_repair mend latest barrier prior).stamp in
       let above : (fresh.time == 0) ≡ false = later_time latest.time in
       let below : is_below prior fresh ≡ true = is_below_by_time prior fresh (omega (arith, rests.in_time)) in
       record {
-        stamp = actless_stamp_fits fresh.time barrier mend.client mend.set above (omega (arith, in_time)) low high
-            sized;
+        stamp = fresh_stamp_fits latest barrier prior in_time;
         prior = prior_fits fresh prior (not_opening fresh above) rests.fits below rests.plain;
-        group = alone_fits object fresh;
+        group = grouped fresh refl refl;
       }
 
   pub made_fits : (latest : Stamp) (remedy : Remedy) (candidate : Candidate) → RemedyFits object latest remedy
-      → MakesCandidate mend latest remedy candidate → CandidateFits object candidate
-  made_fits latest Nothing candidate fits made = absurd made
-  made_fits latest (Unshown member) candidate fits made = absurd made
-  made_fits latest (Unplanned other) candidate fits made = absurd made
-  made_fits latest (Shown shown) candidate fits made = subst (CandidateFits object) (sym made.0) fits
-  made_fits latest (Fresh barrier prior) candidate fits made =
-      subst (CandidateFits object) (sym made.0) (fresh_fits latest barrier prior fits made.1)
+      → GroupFits mend.made object latest remedy → MakesCandidate mend latest remedy candidate
+      → CandidateFits object candidate
+  made_fits latest Nothing candidate fits grouped made = absurd made
+  made_fits latest (Unshown member) candidate fits grouped made = absurd made
+  made_fits latest (Unplanned other) candidate fits grouped made = absurd made
+  made_fits latest (Shown shown) candidate fits grouped made = subst (CandidateFits object) (sym made.0) fits
+  made_fits latest (Fresh barrier prior) candidate fits grouped made =
+      subst (CandidateFits object) (sym made.0) (fresh_fits latest barrier prior fits grouped made.1)
+
+  -- whatever its group
+  pub made_stamp_fits : (latest : Stamp) (remedy : Remedy) (candidate : Candidate) → RemedyFits object latest remedy
+      → MakesCandidate mend latest remedy candidate → stamp_form.Fits candidate.stamp
+  made_stamp_fits latest Nothing candidate fits made = absurd made
+  made_stamp_fits latest (Unshown member) candidate fits made = absurd made
+  made_stamp_fits latest (Unplanned other) candidate fits made = absurd made
+  made_stamp_fits latest (Shown shown) candidate fits made =
+      subst (λ (it : Candidate). stamp_form.Fits it.stamp) (sym made.0) fits.stamp
+  made_stamp_fits latest (Fresh barrier prior) candidate fits made =
+      subst (λ (it : Candidate). stamp_form.Fits it.stamp) (sym made.0) (fresh_stamp_fits latest barrier prior made.1)
 
 -- the version that is stored is the one that was found, if any
 pub stored_version_fits : (remedy : Remedy) (version stored : Option ObjState) → IfSome version VersionFits

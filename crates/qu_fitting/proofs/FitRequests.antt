@@ -31,7 +31,7 @@ use Rattle.qu_fitting.proofs.FitValues.{method_numbers}
 use Rattle.qu_fitting.proofs.FitDecisions.{AskedFits, DecisionFits}
 use Rattle.qu_fitting.proofs.FitOperations.{act_decision-fits, ask_decision-fits}
 use Rattle.qu_fitting.proofs.PassedRows.{each_weaker}
-use Rattle.qu_fitting.proofs.RisingObjects.{parts_rise, each_part}
+use Rattle.qu_fitting.proofs.RisingParts.{parts_rise, each_part}
 use Rattle.qu_fitting.proofs.FitMends.{mend_decision-fits}
 use Rattle.qu_fitting.proofs.FitVersions.{act_sized}
 use Rattle.qu_base.specs.declared.party.ReplicaId.{ReplicaId}

@@ -13,7 +13,7 @@ use Rattle.qu_objects.specs.declared.act.Method.{Method}
 use Rattle.qu_objects.specs.declared.query.Ask.{Ask}
 use Rattle.qu_base.specs.declared.kind.Item.{Item}
 use Rattle.qu_objects.specs.declared.answer.Answer.{Answer}
-use Rattle.qu_objects.specs.declared.limits.TheConstants.{PARTS_LIMIT}
+use Rattle.qu_objects.specs.declared.limits.TheConstants.{MOST_PARTS}
 use Rattle.qu_base.specs.declared.kind.Applied.{Applied}
 use Rattle.qu_base.specs.declared.kind.Applied.TheVariants as made
 use Rattle.qu_objects.specs.declared.kind.Value.{Value}
@@ -33,7 +33,8 @@ use Rattle.qu_frames.specs.declared.verdict.Verdict.TheVariants.{Done, Told, Alr
 use Rattle.qu_frames.specs.Formats.{class_form, refusal_form, stamp_from, after_told, stamps_form, verdict_form}
 use Rattle.qu_fitting.specs.Fits.{ValueFits}
 use Rattle.qu_fitting.proofs.CarriedEach.{with_stamps}
-use Rattle.qu_fitting.proofs.RisingObjects.{RiseFrom, PartsRise}
+use Rattle.qu_rows.proofs.RisingObjects.{RiseFrom}
+use Rattle.qu_fitting.proofs.RisingParts.{PartsRise}
 use Rattle.qu_fitting.proofs.FitValues.{refusal_within, IsFitting, applied_fits, value_told-fits, left_fits}
 
 -- ---- refusals
@@ -115,7 +116,7 @@ stamps_fit stamp parts rise fits =
     length-map (objects_named parts) (λ (object : ObjectId). (object, stamp object))
     ∙ length-map parts (λ part. part.0) in
     let some : 1 ≤ length parts = rise.some in
-    let few : length parts ≤ PARTS_LIMIT = rise.few in (
+    let few : length parts ≤ MOST_PARTS = rise.few in (
       (omega (arith, many, some), omega (arith, many, few)),
       (refl, stamps_from stamp 0 (objects_named parts) rise.rise fits),
     )
@@ -157,7 +158,7 @@ items_fit [] fit = tt
 items_fit (made.Changed after item ∷ later) fit = (fit.0.1, items_fit later fit.1)
 items_fit (made.Refused why ∷ later) fit = items_fit later fit.1
 
-answer_from-fits : (outcomes : List (Applied Value)) → 1 ≤ length outcomes → length outcomes ≤ PARTS_LIMIT
+answer_from-fits : (outcomes : List (Applied Value)) → 1 ≤ length outcomes → length outcomes ≤ MOST_PARTS
     → AllByRecursion IsFitting outcomes → answer_form.Fits (answer_from outcomes)
 unfolding answer_form
 answer_from-fits outcomes some few fit = by (refusal_from 0 outcomes) (is_refusal 0 outcomes fit)
@@ -208,7 +209,7 @@ module _ (parts : List (ObjectId × Method)) (rise : PartsRise parts) (sized : P
   performed_fits =
       let made : length (outcomes parts values) ≡ length parts = made_each parts values many in
       let some : 1 ≤ length parts = rise.some in
-      let few : length parts ≤ PARTS_LIMIT = rise.few in
+      let few : length parts ≤ MOST_PARTS = rise.few in
       answer_from-fits (outcomes parts values) (omega (arith, made, some)) (omega (arith, made, few))
       (outcomes_fit parts values sized fit)
 
@@ -227,6 +228,6 @@ pub read_fits : (parts : List (ObjectId × Ask)) → PartsRise parts → (values
 read_fits parts rise values fit many =
     let made : length (told_outcomes parts values) ≡ length parts = told_each parts values many in
     let some : 1 ≤ length parts = rise.some in
-    let few : length parts ≤ PARTS_LIMIT = rise.few in
+    let few : length parts ≤ MOST_PARTS = rise.few in
     answer_from-fits (told_outcomes parts values) (omega (arith, made, some)) (omega (arith, made, few))
     (told_outcomes_fit parts values fit)

@@ -1,4 +1,5 @@
 pub mod FitStamps
+pub mod FitGroups
 pub mod FitCulled
 pub mod FitVersions
 pub mod FitValues
@@ -9,8 +10,9 @@ pub mod FitOperations
 pub mod FitStandings
 pub mod FitLinks
 pub mod RisingForms
-pub mod RisingObjects
+pub mod RisingParts
 pub mod FitRepairs
+pub mod FitCopies
 pub mod FitMends
 pub mod FitRequests
 pub mod Accepting

@@ -10,7 +10,7 @@ use Rattle.qu_base.proofs.Formats.{some_is, both-exact, made-exact, fields-exact
 use Rattle.qu_stamp.specs.declared.stamp.Stamp.{Stamp}
 use Rattle.qu_stamp.specs.Formats.{stamp_form, object_from}
 use Rattle.qu_stamp.proofs.Forms.{stamp_with-exact, object_from-exact}
-use Rattle.qu_objects.specs.declared.limits.TheConstants.{PARTS_LIMIT}
+use Rattle.qu_objects.specs.declared.limits.TheConstants.{MOST_PARTS}
 use Rattle.qu_objects.specs.declared.answer.Answer.{Answer}
 use Rattle.qu_base.specs.Texts.{word_form}
 use Rattle.qu_objects.specs.Formats.{answer_form}
@@ -203,7 +203,7 @@ pub stamps-exact : IsExact stamps_form
 unfolding stamps_form
 stamps-exact =
     counted-exact spelled_stamp stamp_from after_told stamp_from-exact (λ least told. refl)
-    (number w8 1 PARTS_LIMIT) 0 (byte-exact 1 PARTS_LIMIT (omega arith))
+    (number w8 1 MOST_PARTS) 0 (byte-exact 1 MOST_PARTS (omega arith))
 
 answered-exact : IsExact answered_form
 answered-exact = both-exact stamps_form (λ stamps. answer_form) stamps-exact (λ stamps fits. answer-exact)

@@ -8,7 +8,7 @@ use Rattle.qu_base.specs.declared.party.ReplicaId.{ReplicaId}
 use Rattle.qu_base.specs.Format.{Format, number, bytes, both, tested, made, either, items, counted, tagged, object_form, replica_form, client_form}
 use Rattle.qu_stamp.specs.declared.stamp.Stamp.{Stamp}
 use Rattle.qu_stamp.specs.Formats.{stamp_form, plain_stamp_form, object_from}
-use Rattle.qu_objects.specs.declared.limits.TheConstants.{PARTS_LIMIT}
+use Rattle.qu_objects.specs.declared.limits.TheConstants.{MOST_PARTS}
 use Rattle.qu_objects.specs.declared.act.Method.{Method}
 use Rattle.qu_objects.specs.declared.query.Ask.{Ask}
 use Rattle.qu_objects.specs.declared.answer.Answer.{Answer}
@@ -114,7 +114,7 @@ some_stamps least count = items spelled_stamp stamp_from after_told least count
 
 -- stamps by rising objects
 unfoldable pub stamps_form : Format (List (ObjectId × Stamp))
-stamps_form = counted (number w8 1 PARTS_LIMIT) spelled_stamp stamp_from after_told 0
+stamps_form = counted (number w8 1 MOST_PARTS) spelled_stamp stamp_from after_told 0
 
 abbrev pub verdict_code : Verdict → ℕ
 verdict_code (Done stamps answer) = 1

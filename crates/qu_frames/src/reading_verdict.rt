@@ -10,7 +10,7 @@ use super::refusal_number::{
 };
 use super::{ClassCode, Refusal, Verdict};
 use qu_base::{BadText, Cursor, List, OBJECT_IDS, ObjectId, ReadFail, Why};
-use qu_objects::{PARTS_LIMIT, read_answer};
+use qu_objects::{MOST_PARTS, read_answer};
 use qu_stamp::{Stamp, object_from, read_stamp};
 use std::alloc::Global;
 
@@ -47,7 +47,7 @@ pub(crate) fn verdict_at(alloc: Global, text: &mut Cursor) -> Result<Verdict, Re
 fn stamps_at(alloc: Global, text: &mut Cursor) -> Result<List<(ObjectId, Stamp)>, ReadFail>
     ensures { Gives stamps_form result text.old text.new }
 {
-    let count = text.u8_within(1, PARTS_LIMIT)?;
+    let count = text.u8_within(1, MOST_PARTS)?;
     next_stamps(alloc, count, text)
 }
 

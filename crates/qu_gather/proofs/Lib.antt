@@ -3,6 +3,7 @@ pub mod Own
 pub mod Opening
 pub mod Putting
 pub mod Moving
+pub mod Telling
 pub mod Ended
 pub mod Waiting
 pub mod Recorded

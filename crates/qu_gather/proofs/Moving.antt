@@ -1,6 +1,5 @@
 -- Whether another actor stands behind a lock.
-use Rattle.std.proofs.Common.{◌≡◌, ℕ, ◌+◌, ◌<◌, ◌≤◌, Bool, true, false, cond, eqb, List, [], ◌∷◌, ◌++◌, map, length, get_or, drop, Option, None, Some, refl, sym, ap, subst, ◌∙◌, arith, inl, inr}
-use Rattle.std.specs.Prelude.{slice_get}
+use Rattle.std.proofs.Common.{◌≡◌, ℕ, ◌+◌, ◌<◌, ◌≤◌, Bool, true, false, cond, eqb, List, [], ◌∷◌, ◌++◌, map, length, get_or, drop, Option, None, Some, refl, sym, ap, ◌∙◌, arith, inl, inr}
 use Rattle.std.specs.Option.{option_or}
 use Rattle.std.proofs.lemmas.Bool.{cases_Bool, eqb-true}
 use Rattle.std.proofs.lemmas.List.{at_drop_more, at_drop_all, get_or-map, get_or_default, length-map}
@@ -14,11 +13,9 @@ use Rattle.qu_client.specs.declared.state.ClientState.{ClientState}
 use Rattle.qu_trace.specs.Faulty.{is_same}
 use Rattle.qu_trace.specs.declared.trace.Setup.{Setup}
 use Rattle.qu_replay.specs.declared.kept_step.KeptStep.{KeptStep}
-use Rattle.qu_replay.specs.Entries.{IsFirstUnsent}
-use Rattle.qu_post.specs.declared.filed.Filed.{Filed}
 use Rattle.qu_gather.specs.Correct.{correct_replicas, correct_clients}
 use Rattle.qu_gather.specs.Gathered.{replica_name, client_name}
-use Rattle.qu_gather.specs.Torn.{first_moved, replica_locks, client_locks, replicas_behind, clients_behind, moved_actor, IsPairOf, TakesUnsent}
+use Rattle.qu_gather.specs.Torn.{first_moved, replica_locks, client_locks, replicas_behind, clients_behind, moved_actor}
 
 -- ---- one lock after another
 
@@ -185,15 +182,6 @@ all_moved setup held others first second same first_is second_is =
     option_or it (first_moved (client_locks (correct_clients setup setup.clients)) (clients_behind others)))
     (sym first_is)
     ∙ ap (option_or first) (sym second_is)
-
--- what is told of the first step that takes what was not sent
-pub pair_takes : (merged : List (Party × KeptStep)) (at : ℕ) (journal : List Filed)
-    (made : Option KeptStep × Option Filed) → IsFirstUnsent merged at → IsPairOf (slice_get merged at) journal made
-    → TakesUnsent merged journal made.0 made.1
-pair_takes merged at journal made first pair =
-    let here : IsPairOf (Some first.step) journal made =
-    subst (λ (it : Option (Party × KeptStep)). IsPairOf it journal made) first.found pair in
-    record { at = at; first = first; kept_is = here.0; filed_is = here.1 }
 
 -- of no lock another actor stands behind it
 pub none_found : (locks held : List Party) (at : ℕ) (all : Option (Party × Party)) → length locks ≤ at

@@ -1,5 +1,5 @@
 -- Where no letter comes too late, a client ticks only once each letter for which it waits was delivered.
-use Rattle.std.proofs.Common.{◌≡◌, ℕ, zero, suc, ◌+◌, ◌<◌, Bool, true, false, cond, eqb, List, [], ◌∷◌, ◌++◌, map, length, take, Option, None, Some, refl, sym, ap, subst, ◌∙◌, append_assoc, append-nil, length-append, arith, inl, inr}
+use Rattle.std.proofs.Common.{◌≡◌, ℕ, zero, suc, ◌+◌, ◌<◌, Bool, true, false, cond, List, [], ◌∷◌, ◌++◌, length, take, Option, None, Some, refl, sym, ap, subst, ◌∙◌, append_assoc, append-nil, length-append, arith, inl, inr}
 use Rattle.std.specs.Prelude.{slice_get}
 use Rattle.std.specs.Option.{option_or}
 use Rattle.std.proofs.lemmas.Bool.{cases_Bool, eqb-true, eq-eqb}
@@ -13,7 +13,7 @@ use Rattle.qu_trace.specs.declared.event.Event.TheVariants as event
 use Rattle.qu_trace.specs.declared.trace.Entry.{Entry}
 use Rattle.qu_trace.specs.declared.trace.Setup.{Setup}
 use Rattle.qu_trace.specs.Letters.{letters_of}
-use Rattle.qu_gather.specs.Ticks.{senders_of, asker_of, waiting_client, IsAwaited, WasDelivered, IsTick, TicksAnswered, is_delivery_of, is_tick_of, is_in_time, late_for, late_among, late_letter}
+use Rattle.qu_gather.specs.Ticks.{senders_of, asker_of, waiting_client, WasDelivered, IsTick, TicksAnswered, is_delivery_of, is_tick_of, is_in_time, late_for, late_among, late_letter}
 
 no_true : false ≡ true → ⊥
 no_true is = cc

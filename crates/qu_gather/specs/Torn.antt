@@ -1,5 +1,5 @@
 -- Why what actors kept is no run.
-use Rattle.std.specs.Prelude.{ℕ, ◌==◌, ◌&&◌, List, [], ◌∷◌, ◌++◌, ◌≡◌, map, if◌then◌else◌, Option, None, Some, Result, Ok, Err}
+use Rattle.std.specs.Prelude.{ℕ, ◌≡◌, ◌⊎◌, List, [], ◌∷◌, ◌++◌, map, if◌then◌else◌, Option, None, Some, Result, Ok, Err}
 use Rattle.qu_base.specs.declared.party.ClientId.{ClientId}
 use Rattle.qu_base.specs.declared.party.ReplicaId.{ReplicaId}
 use Rattle.qu_base.specs.declared.party.Party.{Party}
@@ -9,8 +9,6 @@ use Rattle.qu_rows.specs.State.{ReplicaState}
 use Rattle.qu_client.specs.declared.state.ClientState.{ClientState}
 use Rattle.qu_trace.specs.Faulty.{is_same}
 use Rattle.qu_trace.specs.declared.trace.Setup.{Setup}
-use Rattle.qu_frames.specs.declared.input.Input.{Input}
-use Rattle.qu_frames.specs.declared.input.Input.TheVariants.{Frame, Tick, Invoke}
 use Rattle.qu_replay.specs.declared.kept_step.KeptStep.{KeptStep}
 use Rattle.qu_trace.specs.declared.trace.Entry.{Entry}
 use Rattle.qu_replay.specs.Entries.{IsFirstUnsent, WereSentBefore}
@@ -20,6 +18,7 @@ use Rattle.qu_gather.specs.declared.torn.LiveFail.{LiveFail}
 use Rattle.qu_gather.specs.declared.torn.LiveFail.TheVariants as fail
 use Rattle.qu_gather.specs.declared.torn.Torn.TheVariants as torn
 use Rattle.qu_gather.specs.Correct.{correct_replicas, correct_clients}
+use Rattle.qu_journal.specs.Journal.{as_filed, AreFiled, IsUnfiled, AreUnlike, sender_of}
 use Rattle.qu_gather.specs.Ticks.{late_letter}
 
 -- ---- another actor behind a lock
@@ -68,18 +67,6 @@ IsOfLocks fail.NoMemory = Unit {0}
 
 -- ---- a step on what was not sent
 
--- the filed step of this actor with this ticket
-unfoldable pub filed_at : Party → ℕ → List Filed → Option Filed
-filed_at me ticket [] = None
-filed_at me ticket (filed ∷ later) =
-    if is_same filed.actor me && filed.ticket == ticket then Some filed else filed_at me ticket later
-
--- the filed step that an input names as the sender of its letter
-abbrev pub sender_of : Input → List Filed → Option Filed
-sender_of (Frame name text) journal = filed_at name.from name.ticket journal
-sender_of Tick journal = None
-sender_of (Invoke op) journal = None
-
 -- the first of these steps that takes what was not sent to its actor before, and the filed step that its letter names
 pub record TakesUnsent (merged : List (Party × KeptStep)) (journal : List Filed) (kept : Option KeptStep)
     (filed : Option Filed) : Type 0 where
@@ -87,13 +74,6 @@ pub record TakesUnsent (merged : List (Party × KeptStep)) (journal : List Filed
   pub first : IsFirstUnsent merged at
   pub kept_is : kept ≡ Some first.step.1
   pub filed_is : filed ≡ sender_of first.step.1.input journal
-
--- why steps in the order of their tickets are not told: no actor moved, and one of them takes what was not sent
-abbrev pub IsUntold : List (Party × KeptStep) → List Filed → LiveFail → Type 0
-IsUntold merged journal (fail.Torn (torn.Moved lock held)) = ⊥
-IsUntold merged journal (fail.Torn (torn.Steps kept filed)) = TakesUnsent merged journal kept filed
-IsUntold merged journal (fail.Torn (torn.Early client letter)) = ⊥
-IsUntold merged journal fail.NoMemory = Unit {0}
 
 -- the same of the steps of all actors, put into the order of their tickets, those of one ticket as they stood
 pub record HasUnsent (steps : List (Party × KeptStep)) (journal : List Filed) (kept : Option KeptStep)
@@ -103,18 +83,37 @@ pub record HasUnsent (steps : List (Party × KeptStep)) (journal : List Filed) (
   pub ties : (ticket : ℕ) → steps_of_ticket ticket merged ≡ steps_of_ticket ticket steps
   pub takes : TakesUnsent merged journal kept filed
 
--- steps are told not to fit only where one took what was not sent
-abbrev pub TellsSteps : {X : Type 0} → List (Party × KeptStep) → List Filed → Result X LiveFail → Type 0
-TellsSteps steps journal (Ok x) = Unit {0}
-TellsSteps steps journal (Err (fail.Torn (torn.Moved lock held))) = Unit {0}
-TellsSteps steps journal (Err (fail.Torn (torn.Steps kept filed))) = HasUnsent steps journal kept filed
-TellsSteps steps journal (Err (fail.Torn (torn.Early client letter))) = Unit {0}
-TellsSteps steps journal (Err fail.NoMemory) = Unit {0}
+-- ---- why steps are not told
 
--- a kept step, if there is one, and the filed one that it names as the sender of its letter
-abbrev pub IsPairOf : Option (Party × KeptStep) → List Filed → Option KeptStep × Option Filed → Type 0
-IsPairOf None journal made = made ≡ (None, None)
-IsPairOf (Some step) journal made = (made.0 ≡ Some step.1) × (made.1 ≡ sender_of step.1.input journal)
+-- why no entries tell steps in the order of their tickets: the filed ones are others, or one took what was not sent
+abbrev pub IsUntold : List (Party × KeptStep) → List (Party × KeptStep) → LiveFail → Type 0
+IsUntold merged filed (fail.Torn (torn.Moved lock held)) = ⊥
+IsUntold merged filed (fail.Torn (torn.Steps kept step)) =
+    AreUnlike merged filed (kept, step) ⊎ ((merged ≡ filed) × TakesUnsent merged (map as_filed filed) kept step)
+IsUntold merged filed (fail.Torn (torn.Early client letter)) = ⊥
+IsUntold merged filed fail.NoMemory = Unit {0}
+
+-- steps of all actors, put into the order of their tickets, each of which takes what was sent to its actor before
+pub record WereSent (steps : List (Party × KeptStep)) : Type 0 where
+  pub merged : List (Party × KeptStep)
+  pub sorted : AreByTicket 0 merged
+  pub ties : (ticket : ℕ) → steps_of_ticket ticket merged ≡ steps_of_ticket ticket steps
+  pub sent : WereSentBefore [] merged
+
+-- the steps that actors kept are those that were filed, and each takes what was sent to its actor before
+pub record AreWhole (steps : List (Party × KeptStep)) (journal : List Filed) : Type 0 where
+  pub filed : AreFiled steps journal
+  pub sent : WereSent steps
+
+-- steps are told not to fit where others were filed, and else where one took what was not sent: then always, unless
+-- memory ends or another actor stands behind a lock
+abbrev pub TellsSteps : {X : Type 0} → List (Party × KeptStep) → List Filed → Result X LiveFail → Type 0
+TellsSteps steps journal (Ok x) = AreWhole steps journal
+TellsSteps steps journal (Err (fail.Torn (torn.Moved lock held))) = Unit {0}
+TellsSteps steps journal (Err (fail.Torn (torn.Steps kept filed))) =
+    IsUnfiled steps journal kept filed ⊎ (AreFiled steps journal × HasUnsent steps journal kept filed)
+TellsSteps steps journal (Err (fail.Torn (torn.Early client letter))) = AreWhole steps journal
+TellsSteps steps journal (Err fail.NoMemory) = Unit {0}
 
 -- ---- a tick that came too early
 

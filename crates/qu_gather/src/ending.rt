@@ -1,7 +1,5 @@
-ghost use Rattle.std.specs.Prelude.{◌≡◌, ◌==◌, ◌&&◌, [], length, slice_get, None, IfOk, IfErr, OnOk};
-ghost use Rattle.std.specs.Option.{option_copied};
+ghost use Rattle.std.specs.Prelude.{◌≡◌, [], length, None, IfOk, IfErr, OnOk};
 ghost use Rattle.qu_base.specs.Bounds.{replicas};
-ghost use Rattle.qu_trace.specs.Faulty.{is_same};
 ghost use Rattle.qu_world.specs.Run.{IsSetup};
 ghost use Rattle.qu_replay.specs.Told.{AreTold};
 ghost use Rattle.qu_replay.specs.Merged.{merged_entries};
@@ -9,16 +7,16 @@ ghost use Rattle.qu_replay.specs.Entries.{WereSentBefore};
 ghost use Rattle.qu_gather.specs.Correct.{correct_replicas, correct_clients};
 ghost use Rattle.qu_gather.specs.Live.{IsLive, AreCallsOf};
 ghost use Rattle.qu_gather.specs.Gathered.{all_steps, HaveEnded, AreTheirOwn};
-ghost use Rattle.qu_gather.specs.Torn.{filed_at, sender_of, moved_actor, TellsMoved, IsOfLocks, IsPairOf, IsUntold, IsEarly, TellsSteps, TellsEarly};
+ghost use Rattle.qu_gather.specs.Torn.{moved_actor, TellsMoved, IsOfLocks, IsUntold, IsEarly, TellsSteps, TellsEarly};
 ghost use Rattle.qu_gather.specs.Ticks.{late_letter};
 
 use crate::correct::{correct_clients, correct_replicas};
 use crate::held::{moved_client, moved_replica, put_clients, put_replicas};
 use crate::ticks::late_letter;
 use crate::{LiveFail, Torn};
-use qu_base::{ClientId, List, NoMemory, Party};
+use qu_base::{ClientId, List, Party};
 use qu_client::Client;
-use qu_frames::{Input, Letter};
+use qu_journal::{first_unlike, steps_filed, unlike_pair, unsent_pair};
 use qu_lock::{Kept, RunName};
 use qu_objects::Op;
 use qu_post::Filed;
@@ -28,8 +26,9 @@ use qu_trace::{Entry, Setup, Trace};
 use std::alloc::Global;
 
 /// What stood behind the locks of a run of this setup with these calls, as one run: all kept steps in the order of
-/// their tickets. It is torn where another actor stands behind a lock, where a step took what was not sent to it, or
-/// where a client ticked before a letter that it waited for was delivered.
+/// their tickets. It is torn where another actor stands behind a lock, where the steps that were kept are not those
+/// that were filed, where a step took what was not sent to it, or where a client ticked before a letter that it waited
+/// for was delivered.
 pub fn gather<N: RunName>(
     alloc: Global,
     setup: Setup,
@@ -53,8 +52,9 @@ pub fn gather<N: RunName>(
     let mut steps = List::new(alloc);
     put_replicas(&mut steps, held)?;
     put_clients(&mut steps, others)?;
-    let merged = by_ticket(steps)?;
-    let entries = told(alloc, merged.as_slice(), journal.as_slice())?;
+    let kept = by_ticket(steps)?;
+    let filed = by_ticket(steps_filed(alloc, journal)?)?;
+    let entries = told(alloc, kept, filed)?;
     tick_in_time(alloc, &setup, entries.as_slice())?;
     Ok(Trace { setup, entries })
 }
@@ -81,21 +81,27 @@ fn are_their_own<N: RunName>(
     }
 }
 
-/// The entries that tell these steps.
+/// The entries that tell kept steps, where these are the filed ones, both in the order of tickets. What does not fit
+/// is taken out of the lists, so that no memory is needed to tell it.
 fn told(
     alloc: Global,
-    merged: &[(Party, KeptStep)],
-    journal: &[Filed],
+    kept: List<(Party, KeptStep)>,
+    filed: List<(Party, KeptStep)>,
 ) -> Result<List<Entry>, LiveFail>
-    ensures told { IfOk result (λ entries. AreTold [] merged.now entries) }
-    ensures entries { IfOk result (λ entries. entries ≡ merged_entries merged.now) }
-    ensures sent { IfOk result (λ entries. WereSentBefore [] merged.now) }
-    ensures untold { IfErr result (IsUntold merged.now journal.now) }
+    ensures told { IfOk result (λ entries. AreTold [] kept entries) }
+    ensures entries { IfOk result (λ entries. entries ≡ merged_entries kept) }
+    ensures sent { IfOk result (λ entries. WereSentBefore [] kept) }
+    ensures filed { IfOk result (λ entries. kept ≡ filed) }
+    ensures untold { IfErr result (IsUntold kept filed) }
 {
-    match entries_of(alloc, merged) {
+    if let Some(at) = first_unlike(kept.as_slice(), filed.as_slice()) {
+        let (kept, filed) = unlike_pair(kept, filed, at);
+        return Err(LiveFail::Torn(Torn::Steps { kept, filed }));
+    }
+    match entries_of(alloc, kept.as_slice()) {
         Ok(entries) => Ok(entries),
         Err(EntriesFail::Unsent(at)) => {
-            let (kept, filed) = unsent(alloc, merged, at, journal)?;
+            let (kept, filed) = unsent_pair(kept, filed, at);
             Err(LiveFail::Torn(Torn::Steps { kept, filed }))
         }
         Err(EntriesFail::NoMemory) => Err(LiveFail::NoMemory),
@@ -111,71 +117,4 @@ fn tick_in_time(alloc: Global, setup: &Setup, entries: &[Entry]) -> Result<(), L
         Some((client, letter)) => Err(LiveFail::Torn(Torn::Early { client, letter })),
         None => Ok(()),
     }
-}
-
-/// The step at this place, and the filed one that it names as the sender of its letter.
-fn unsent(
-    alloc: Global,
-    merged: &[(Party, KeptStep)],
-    at: usize,
-    journal: &[Filed],
-) -> Result<(Option<KeptStep>, Option<Filed>), NoMemory>
-    ensures { IfOk result (λ made. IsPairOf (slice_get merged.now at) journal.now made) }
-{
-    match merged.get(at) {
-        Some((_, step)) => {
-            let filed = sender(alloc, &step.input, journal)?;
-            Ok((Some(step.copy(alloc)?), filed))
-        }
-        None => Ok((None, None)),
-    }
-}
-
-/// The filed step that an input names as the sender of its letter.
-fn sender(alloc: Global, input: &Input, journal: &[Filed]) -> Result<Option<Filed>, NoMemory>
-    ensures { IfOk result (λ found. found ≡ sender_of input.now journal.now) }
-{
-    match input {
-        Input::Frame(name, _) => match filed_at(journal, name.from, name.ticket) {
-            Some(filed) => Ok(Some(copy_filed(alloc, filed)?)),
-            None => Ok(None),
-        },
-        Input::Tick | Input::Invoke(_) => Ok(None),
-    }
-}
-
-/// The filed step of this actor with this ticket.
-#[tactic(auto, unfolding(crate::specs::Torn::filed_at))]
-fn filed_at(journal: &[Filed], me: Party, ticket: u64) -> Option<&Filed>
-    ensures { option_copied result ≡ filed_at me ticket journal.now }
-{
-    for filed in journal {
-        if is_filed_at(filed, me, ticket) {
-            return Some(filed);
-        }
-    }
-    None
-}
-
-fn is_filed_at(filed: &Filed, me: Party, ticket: u64) -> bool
-    ensures { result ≡ (is_same filed.now.actor me && filed.now.ticket == ticket) }
-{
-    filed.actor == me && filed.ticket == ticket
-}
-
-/// An equal filed step.
-fn copy_filed(alloc: Global, filed: &Filed) -> Result<Filed, NoMemory>
-    ensures { IfOk result (λ copy. copy ≡ filed.now) }
-{
-    let ended = match &filed.ended {
-        Some((client, number, outcome)) => Some((*client, *number, outcome.copy(alloc)?)),
-        None => None,
-    };
-    Ok(Filed {
-        ticket: filed.ticket,
-        actor: filed.actor,
-        input: filed.input.copy(alloc)?,
-        letters: Letter::copy_all(alloc, filed.letters.as_slice())?,
-        ended,
-    })
 }

@@ -10,7 +10,9 @@ pub enum Torn {
         lock: Party,
         held: Party,
     },
-    /// An actor kept a step on what was not sent to it before; beside it the filed step that its letter names.
+    /// The kept and the filed step of the lowest ticket at which they differ, or at which there is only one of them.
+    /// Where they never do: the first kept step on what was not sent to its actor before, and the filed step that its
+    /// letter names.
     Steps {
         kept: Option<KeptStep>,
         filed: Option<Filed>,

@@ -1,5 +1,5 @@
 -- What a replica accepts upon a frame, and why: nothing, or one candidate on each object of an act.
-use Rattle.std.proofs.Common.{◌≡◌, ◌⊎◌, ℕ, Bool, true, false, cond, List, [], ◌∷◌, ◌++◌, map, length, Option, None, Some, inl, inr, refl, sym, subst, ap, ◌∙◌, ltb, ◌+◌, ◌≤◌, ltb-false}
+use Rattle.std.proofs.Common.{◌≡◌, ◌⊎◌, ℕ, Bool, true, false, cond, List, [], ◌∷◌, ◌++◌, map, length, Option, None, Some, inl, inr, refl, sym, subst, ap, ◌∙◌, ltb, ◌≤◌, ltb-false}
 use Rattle.std.specs.Prelude.{find, nat_lt}
 use Rattle.std.specs.List.{AllByRecursion}
 use Rattle.std.proofs.lemmas.Option.{none-some, same_Some}
@@ -22,7 +22,7 @@ use Rattle.qu_rows.specs.declared.decision.Decision.{Decision}
 use Rattle.qu_rows.specs.declared.decision.Decision.TheVariants.{Waits}
 use Rattle.qu_rows.specs.State.{ReplicaState, own_candidates, own_latest}
 use Rattle.qu_mends.specs.Table.{candidates_in}
-use Rattle.qu_fitting.specs.Holding.{accept, accept_all}
+use Rattle.qu_fitting.specs.Holding.{stored_with, accept, accept_all}
 use Rattle.qu_rows.specs.Rows.{Asked, asked_at, refuse, shown_of, decision_on, row_few, decide_repair, mend_asked, wanted_version, row_thin, part_of, parts_of, decision_by, mending_on}
 use Rattle.qu_mends.specs.Table.{first_given}
 use Rattle.qu_replica.specs.Step.{carried_out, replica_on_frame}
@@ -34,7 +34,7 @@ use Rattle.qu_mends.specs.declared.mending.Mending.{Mending}
 use Rattle.qu_mends.specs.declared.mending.Mending.TheVariants as mending
 use Rattle.qu_mends.specs.declared.mend.Mend.{Mend}
 use Rattle.qu_mends.specs.declared.remedy.Remedy.TheVariants.{Shown}
-use Rattle.qu_mends.specs.Remedy.{remedy_of, group_of, member_remedy, remedies_by}
+use Rattle.qu_mends.specs.Remedy.{copy_by, remedy_by, remedy_of, whole_group, copied_group, group_of, mended_group, fresh_member, made_group, member_remedy, remedies_by}
 use Rattle.qu_mends.specs.Causes.{IsPartAdded, ArePartsAdded, HasCause}
 use Rattle.qu_class.specs.Rows.{AreWellFormed, IsGreatestOfKind, AllShown}
 use Rattle.qu_class.proofs.OfKind.{base_is_greatest, held_if_repairable}
@@ -42,12 +42,19 @@ use Rattle.qu_stamp.specs.Group.{is_group}
 use Rattle.qu_grounds.proofs.Formed.{AreGrouped}
 use Rattle.qu_base.specs.Bounds.{quorum}
 use Rattle.qu_class.specs.Class.{class_in}
+use Rattle.qu_class.specs.Plan.{first_apart}
+use Rattle.qu_class.specs.declared.class.Class.{Class}
+use Rattle.qu_class.specs.declared.class.Class.TheVariants as class
 use Rattle.qu_class.proofs.GroupRule.{own_tells}
 use Rattle.qu_mends.proofs.Members.{IsShownWith, group_shown, group_agrees}
 use Rattle.qu_rows.proofs.MendedObjects.{mending_has_cause, enough_in_sets}
 use Rattle.qu_grounds.proofs.Remedies.{inlined, wanted_plain, remedy_is, adds_alone}
-use Rattle.qu_grounds.proofs.GroupAcceptance.{IsJoinedAt, AddsGroup, joined, all_joined, adds_group, group_stamps}
-use Rattle.qu_grounds.proofs.ActAcceptance.{accepted_in, AcceptsNothing, unknown, thin, version, past, ask_accepts, carried, may_accept, candidates_after, stays, act_moves, alike_candidates}
+use Rattle.qu_grounds.proofs.GroupAcceptance.{no_member, each_member, members_listed, IsJoinedAt, AddsGroup, joined, all_joined, adds_group, group_stamps}
+use Rattle.qu_grounds.proofs.CopyAcceptance.{copies_added}
+use Rattle.qu_claims.specs.Parts.{Names}
+use Rattle.qu_versions.specs.declared.stored.Stored.{Stored}
+use Rattle.std.proofs.lemmas.List.{append-nil}
+use Rattle.qu_grounds.proofs.ActAcceptance.{accepted_in, AcceptsNothing, unknown, thin, past, ask_accepts, carried, may_accept, candidates_after, stays, act_moves, alike_candidates}
 use Rattle.qu_replica.specs.Growth.{HoldsAlike}
 use Rattle.qu_rows.specs.Waiting.{TakenRequest, request_frame_of}
 use Rattle.qu_frames.specs.declared.frame.Body.{Body}
@@ -97,7 +104,10 @@ module _ (state : ReplicaState) (asked : Asked) (no_act : asked.act ≡ None)
       (grouped target (base_on target) (held_if_repairable own_bounds (shown_of asked target) (formed target)
       (base_on target) (greatest.repairable).order)).whole
 
-  one_added : (one : Accepted) → group_of (class_in own_bounds asked.sets target) ≡ []
+  abbrev apart : Option ObjectId
+  apart = first_apart own_bounds asked.sets (base_on target)
+
+  one_added : (one : Accepted) → mended_group own_bounds asked.sets target ≡ []
       → IsPartAdded asked_mend (part_of state asked (target, asked_mend.remedy)) one
       → AddsOne state asked target (one ∷ [])
   unfolding remedy_of
@@ -107,19 +117,23 @@ module _ (state : ReplicaState) (asked : Asked) (no_act : asked.act ≡ None)
     current = (added.may).current;
     above = (added.may).above;
     whole = adds_alone state asked target no_act (class_in own_bounds asked.sets target)
-        (own_tells own_bounds asked.sets target (formed target) enough) (formed target) (grouped target) none
-        one.candidate added.makes;
+        (own_tells own_bounds asked.sets target (formed target) enough) (formed target) (grouped target) apart
+        (ap (made_group asked.sets) none) none one.candidate added.makes;
     remedy = remedy_is state asked target no_act (class_in own_bounds asked.sets target) refl
-        (own_tells own_bounds asked.sets target (formed target) enough) base_grouped one.candidate one.state added.makes
-        added.version;
+        (own_tells own_bounds asked.sets target (formed target) enough) base_grouped apart
+        (ap (made_group asked.sets) none) none one.candidate one.state added.makes added.version;
     alone = ap (λ (it : ObjectId). record { object = it; candidate = one.candidate; state = one.state } ∷ [])
         added.object;
   }
 
+  -- what is added as it is has its version already
+  abbrev no_version : ObjectId → Option ObjState
+  no_version object = None
+
   joined_at : (group : List (ObjectId × ℕ)) (object : ObjectId) (one : Accepted)
       → quorum own_bounds ≤ length (shown_of asked object) → IsShownWith own_bounds asked.sets group object
       → IsPartAdded asked_mend (part_of state asked (object, Shown (base_on object))) one
-      → IsJoinedAt state asked group object
+      → IsJoinedAt state asked group base_on no_version object
   joined_at group object one shown agrees added =
       let greatest : IsGreatestOfKind own_bounds (shown_of asked object) false (base_on object) =
       base_is_greatest own_bounds (shown_of asked object) (formed object) shown in
@@ -130,55 +144,123 @@ module _ (state : ReplicaState) (asked : Asked) (no_act : asked.act ≡ None)
         above = subst (λ (it : Candidate). is_below (own_latest state object) it.stamp ≡ true) (added.makes).0
             (added.may).above;
         whole = agrees.1;
-        remedy = inlined state asked object no_act (base_on object) (base_on object)
+        remedy = inlined state asked target object no_act (base_on object) (base_on object)
             (wanted_version state object (Shown (base_on object))) None refl
             (record { greatest = greatest; latest = agrees.0 })
-            (sym (wanted_plain state asked object no_act (base_on object) plain)) ((added.version).0 plain) refl;
+            (sym (wanted_plain state asked target object no_act (base_on object) plain)) ((added.version).0 plain) refl;
       }
 
   -- each member is joined
-  all_joined_at : (group members : List (ObjectId × ℕ)) (accepted : List Accepted) → AllShown asked.sets members
+  all_joined_at : (shown : Candidate) (group members : List (ObjectId × ℕ)) (accepted : List Accepted)
+      → AllShown asked.sets members
       → AllByRecursion (λ member. IsShownWith own_bounds asked.sets group member.0) members
-      → ArePartsAdded asked_mend (map (part_of state asked) (map (member_remedy own_bounds asked.sets) members))
-      accepted
-      → (accepted ≡ all_joined base_on members)
-      × AllByRecursion (λ member. IsJoinedAt state asked group member.0) members
-  all_joined_at group [] [] shown agree added = (refl, tt)
-  all_joined_at group [] (one ∷ more) shown agree added = absurd added
-  all_joined_at group (member ∷ later) [] shown agree added = absurd added
-  all_joined_at group (member ∷ later) (one ∷ more) shown agree added =
-      let rest = all_joined_at group later more shown.1 agree.1 added.1 in
+      → ArePartsAdded asked_mend
+      (map (part_of state asked) (map (member_remedy own_bounds asked.sets (Shown shown)) members)) accepted
+      → (accepted ≡ all_joined base_on no_version members)
+      × AllByRecursion (λ member. IsJoinedAt state asked group base_on no_version member.0) members
+  all_joined_at shown group [] [] in_sets agree added = (refl, tt)
+  all_joined_at shown group [] (one ∷ more) in_sets agree added = absurd added
+  all_joined_at shown group (member ∷ later) [] in_sets agree added = absurd added
+  all_joined_at shown group (member ∷ later) (one ∷ more) in_sets agree added =
+      let rest = all_joined_at shown group later more in_sets.1 agree.1 added.1 in
       let object : one.object ≡ member.0 = (added.0).object in
       let candidate : one.candidate ≡ base_on member.0 = ((added.0).makes).0 in
       let stored : one.state ≡ None = ((added.0).version).1 in
-      let here : one ≡ joined base_on member.0 =
+      let here : one ≡ joined base_on no_version member.0 =
       λ i. record { object = object i; candidate = candidate i; state = stored i } in (
-        ap (λ (it : Accepted). it ∷ more) here ∙ ap (λ (it : List Accepted). joined base_on member.0 ∷ it) rest.0,
+        ap (λ (it : Accepted). it ∷ more) here
+            ∙ ap (λ (it : List Accepted). joined base_on no_version member.0 ∷ it) rest.0,
         (
-          joined_at group member.0 one (enough_in_sets (quorum own_bounds) asked.sets member.0 fat shown.0) agree.0
+          joined_at group member.0 one (enough_in_sets (quorum own_bounds) asked.sets member.0 fat in_sets.0) agree.0
               added.0,
           rest.1,
         ),
       )
 
-  by_group : (group : List (ObjectId × ℕ)) → group_of (class_in own_bounds asked.sets target) ≡ group
+  abbrev AddsSomeGroup : List Accepted → Type 0
+  AddsSomeGroup accepted =
+      (member : ObjectId × ℕ) × (later : List (ObjectId × ℕ)) × AddsGroup state asked (member ∷ later) accepted
+
+  -- the candidates of a group are added as they are
+  inline_group : (shown : Candidate) (member : ObjectId × ℕ) (later : List (ObjectId × ℕ))
+      → class_in own_bounds asked.sets target ≡ class.InlineMethod shown
+      → whole_group shown.group ≡ member ∷ later → AllShown asked.sets (member ∷ later) → (accepted : List Accepted)
+      → ArePartsAdded asked_mend
+      (map (part_of state asked) (map (member_remedy own_bounds asked.sets (Shown shown)) (member ∷ later))) accepted
+      → AddsSomeGroup accepted
+  inline_group shown member later is whole in_sets accepted added =
+      let group : List (ObjectId × ℕ) = member ∷ later in
+      let both = all_joined_at shown group group accepted in_sets
+      (group_agrees own_bounds asked.sets target shown member later is whole) added in
+      let each : (object : ObjectId) → Names group object → IsJoinedAt state asked group base_on no_version object =
+      each_member (IsJoinedAt state asked group base_on no_version) group both.1 in (
+        member,
+        later,
+        record {
+          candidates = base_on;
+          versions = no_version;
+          all = both.0;
+          each = each;
+          listed = λ object other names besides.
+              members_listed shown base_on group (group_stamps own_bounds asked.sets target shown member later is whole)
+              object other (each object names).whole names besides;
+        },
+      )
+
+  -- or copied
+  copied_group_added : (found : Option ObjectId) → apart ≡ found → (member : ObjectId × ℕ)
+      (later : List (ObjectId × ℕ))
+      → asked_mend.made ≡ made_group asked.sets (member ∷ later)
+      → copied_group (base_on target).group (copy_by (base_on target).stamp found) ≡ member ∷ later
+      → (accepted : List Accepted)
+      → ArePartsAdded asked_mend
+      (map (part_of state asked)
+      (map (member_remedy own_bounds asked.sets (copy_by (base_on target).stamp found)) (member ∷ later))) accepted
+      → AddsSomeGroup accepted
+  copied_group_added None none member later made group accepted added =
+      let whole : (base_on target).group ≡ member ∷ later =
+      sym (ap (λ (test : Bool). cond test (base_on target).group []) base_grouped) ∙ group in (
+        fresh_member asked.sets member,
+        map (fresh_member asked.sets) later,
+        copies_added state asked target no_act formed None none refl (member ∷ later)
+            (subst (λ (it : List (ObjectId × ℕ)). is_group it ≡ true) whole base_grouped) (sym whole) made accepted added,
+      )
+  copied_group_added (Some other) is member later made none accepted added = absurd (no_member member later none)
+
+  by_class : (class : Class) → class_in own_bounds asked.sets target ≡ class → (member : ObjectId × ℕ)
+      (later : List (ObjectId × ℕ)) → asked_mend.made ≡ made_group asked.sets (member ∷ later)
+      → AllShown asked.sets (member ∷ later)
+      → group_of (base_on target) class (remedy_by apart (base_on target) class) ≡ member ∷ later
+      → (accepted : List Accepted)
+      → ArePartsAdded asked_mend
+      (map (part_of state asked)
+      (map (member_remedy own_bounds asked.sets (remedy_by apart (base_on target) class)) (member ∷ later))) accepted
+      → AddsSomeGroup accepted
+  unfolding remedy_by
+  by_class (class.Method base) is member later made shown none accepted added = absurd (no_member member later none)
+  by_class (class.InlineMethod base) is member later made shown group accepted added =
+      inline_group base member later is group shown accepted added
+  by_class class.Copy is member later made shown group accepted added =
+      copied_group_added apart refl member later made group accepted added
+  by_class (class.InlineBarrier base) is member later made shown none accepted added =
+      absurd (no_member member later none)
+  by_class (class.Barrier prior) is member later made shown none accepted added =
+      absurd (no_member member later none)
+  by_class (class.Needs object) is member later made shown none accepted added =
+      absurd (no_member member later none)
+
+  by_group : (group : List (ObjectId × ℕ)) → mended_group own_bounds asked.sets target ≡ group
       → (accepted : List Accepted)
       → ArePartsAdded asked_mend
       (map (part_of state asked) (remedies_by own_bounds asked.sets target asked_mend.remedy group)) accepted
       → AddsSome state asked target accepted
-  unfolding remedies_by
+  unfolding remedies_by remedy_of
   by_group [] is [] added = absurd added
   by_group [] is (one ∷ []) added = inl (one_added one is added.0)
   by_group [] is (one ∷ second ∷ more) added = absurd added.1
   by_group (member ∷ later) is accepted added =
-      let group : List (ObjectId × ℕ) = member ∷ later in
-      let both = all_joined_at group group accepted
-      (subst (AllShown asked.sets) is
-      (group_shown own_bounds asked.sets target (class_in own_bounds asked.sets target) refl))
-      (group_agrees own_bounds asked.sets target (class_in own_bounds asked.sets target) member later refl is) added in
-      let listed =
-      group_stamps own_bounds asked.sets target (class_in own_bounds asked.sets target) member later refl is in
-      inr (member, later, record { all = both.0; each = both.1; first = listed.0; stamps = listed.1 })
+      inr (by_class (class_in own_bounds asked.sets target) refl member later (ap (made_group asked.sets) is)
+      (subst (AllShown asked.sets) is (group_shown own_bounds asked.sets target)) is accepted added)
 
   mended : (made : Mending) → HasCause asked_mend (parts_of state asked target) made
       → AddsSomeOrNone state asked target (accepted_in (decision_by target made))
@@ -274,11 +356,12 @@ adds state new client number round sent mac target accepted may enough made is_n
             (λ (it : ObjectId). is_below (own_latest state it) made.candidate.stamp ≡ true) is made.above;
         whole = λ object is. made.whole;
         listed = λ object other never besides. absurd never;
-        version = made.version;
+        versions = λ object. made.version;
         remedy = λ object is. subst
             (λ (it : ObjectId). IsRemedy state (asked_at state client number sent (body.Mend target)) it
             made.candidate made.version) is made.remedy;
-        stored = is_one.versions;
+        stored = is_one.versions
+            ∙ ap (λ (it : List Stored). state.versions ++ it) (sym (append-nil (stored_with one)));
       };
     }
 

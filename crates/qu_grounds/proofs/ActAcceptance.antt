@@ -11,7 +11,7 @@ use Rattle.qu_fitting.proofs.CarriedEach.{AreBases, AreBefores, fresh_candidates
 use Rattle.qu_fitting.proofs.PassedRows.{base_of, before_of, passed_method, passed_version, passed_current}
 use Rattle.qu_fitting.specs.Holding.{accepted_of, stored_all}
 use Rattle.qu_fitting.proofs.AcceptingAll.{accept_all-is, accepted_grows, accepted_may, history_of}
-use Rattle.qu_claims.specs.Grounds.{fresh_group, stored_of}
+use Rattle.qu_claims.specs.Grounds.{stored_of}
 use Rattle.qu_claims.specs.Parts.{Names}
 use Rattle.qu_versions.specs.declared.stored.Stored.{Stored}
 use Rattle.qu_base.specs.declared.party.ClientId.{ClientId}
@@ -46,7 +46,7 @@ use Rattle.qu_rows.specs.declared.decision.Decision.TheVariants.{Answers, Waits}
 use Rattle.qu_rows.specs.State.{ReplicaState, own_candidates, own_latest}
 use Rattle.qu_mends.specs.Table.{candidates_in}
 use Rattle.qu_fitting.specs.Holding.{with_candidate, accept_all}
-use Rattle.qu_rows.specs.Rows.{Asked, asked_at, refuse, shown_of, fresh_stamp, standing_in, done_again, repeated, row_unknown, row_thin, row_retry, row_current, row_method, row_version, row_kept, row_time, row_full, row_done, row_told, decide_act, decide_ask, objects_of}
+use Rattle.qu_rows.specs.Rows.{Asked, asked_at, refuse, shown_of, fresh_stamp, standing_in, done_again, repeated, row_unknown, row_thin, row_retry, row_current, row_method, row_version, row_kept, row_time, row_full, row_done, row_told, decide_act, decide_ask}
 use Rattle.qu_mends.specs.Table.{first_given}
 use Rattle.qu_replica.specs.Step.{carried_out, replica_on_frame}
 use Rattle.qu_versions.specs.Versions.{version_at}
@@ -188,7 +188,7 @@ module _ (state : ReplicaState) (asked : Asked) (parts : List (ObjectId × Metho
   befores = before_of state asked
 
   abbrev pub fresh : ObjectId → Candidate
-  fresh = fresh_candidates state asked bases befores
+  fresh = fresh_candidates state asked bases befores objects
 
   abbrev pub afters : ObjectId → ObjState
   afters = versions_made state asked bases befores parts
@@ -362,14 +362,6 @@ own_after state new accepted may is_new object =
     ∙ ap (λ (it : ReplicaState). own_candidates it object) (accept_all-is state accepted)
     ∙ ap candidates_in (accepted_grows state object accepted state.histories may)
 
--- While rows make candidates without a group, the parts of an act are one, whose group is empty. This is all that is
--- asked of how many parts there are; it goes when rows make groups.
-one_has_no_group : (asked : Asked) (parts : List (ObjectId × Method)) → IsTrue (are_parts parts)
-    → [] ≡ fresh_group asked (objects_of parts)
-one_has_no_group asked [] in_order = refl
-one_has_no_group asked (part ∷ []) in_order = refl
-one_has_no_group asked (first ∷ second ∷ later) in_order = absurd (false≢true in_order)
-
 module _ (state new : ReplicaState) (asked : Asked) (parts : List (ObjectId × Method)) (accepted : List Accepted)
     (made : MakesAll state asked parts accepted) (is_new : HoldsAlike new (accept_all state accepted))
     (in_order : IsTrue (are_parts parts)) where
@@ -385,7 +377,7 @@ module _ (state new : ReplicaState) (asked : Asked) (parts : List (ObjectId × M
     grounds = λ object names. record {
       method = each_named _ parts made.are_bases object names;
       prior = refl;
-      group = one_has_no_group asked parts in_order;
+      group = refl;
       stamp = refl;
       current = each_named _ parts made.current object names;
     };

@@ -1,6 +1,6 @@
 -- Where a candidate with grounds stands: above all that its replica holds, and upon a base that the replica
 -- has nothing above.
-use Rattle.std.proofs.Common.{◌≡◌, ◌≤◌, ℕ, true, false, ◌&&◌, List, [], ◌∷◌, Option, None, Some, refl, sym, ap, ◌∙◌, inl, inr, unwrap_or, is_some, ◌⊎◌, arith, length}
+use Rattle.std.proofs.Common.{◌≡◌, ◌≤◌, ℕ, Bool, true, false, ◌&&◌, List, Option, None, Some, refl, sym, subst, ap, ◌∙◌, inl, inr, unwrap_or, is_some, ◌⊎◌}
 use Rattle.std.specs.Prelude.{nat_le}
 use Rattle.std.proofs.lemmas.Bool.{false≢true, cases_Bool, and_parts, leb-true}
 use Rattle.std.proofs.lemmas.Option.{none-some, cond_some}
@@ -16,7 +16,7 @@ use Rattle.qu_history.proofs.Stamps.{not_below_latest}
 use Rattle.qu_rows.specs.Rows.{Asked, fresh_stamp, asked_of, act_asked, objects_of}
 use Rattle.qu_class.specs.Repairable.{object_base}
 use Rattle.qu_rows.specs.State.{ReplicaState, own_candidates, own_latest}
-use Rattle.qu_claims.specs.Grounds.{IsGround, Reasons, AddsTo, IsMade, made_on, IsFound, made_stamp, Performs, IsRemedy, Mends}
+use Rattle.qu_claims.specs.Grounds.{IsGround, Reasons, AddsTo, IsMade, made_on, IsMadeFrom, IsFound, made_stamp, Performs, IsRemedy}
 use Rattle.qu_rows.proofs.Allowed.{fresh_later}
 use Rattle.qu_frames.specs.declared.frame.Body.{Body}
 use Rattle.qu_base.specs.declared.party.ClientId.{ClientId}
@@ -122,9 +122,6 @@ module _ {state : ReplicaState} {asked : Asked} {objects : List ObjectId} {objec
 
 -- ---- what a request makes a replica accept
 
-cons-nil : {X : Type 0} (item : X) (items : List X) → item ∷ items ≡ [] → ⊥
-cons-nil item items same = omega (arith, ap length same)
-
 module _ (old new : ReplicaState) (asked : Asked) (group : List (ObjectId × ℕ)) (candidates : ObjectId → Candidate)
   where
     -- it is above all that the replica has
@@ -143,7 +140,7 @@ module _ (old new : ReplicaState) (asked : Asked) (group : List (ObjectId × ℕ
 
     -- the replica made it, with what it made on the other objects, or was shown it
     pub made_or_found : (asks : Body) → Reasons old new asked asks group candidates → (object : ObjectId)
-        → AddsTo asks group object → IsMade old.keys.bounds asked (made_on asks) object (candidates object)
+        → AddsTo asks group object → IsMadeFrom old.keys.bounds asked asks object (candidates object)
         ⊎ IsFound old.keys.bounds asked object (candidates object)
     made_or_found (body.Act parts) reasons object names =
         let grounds : IsGround old asked (objects_of parts) object (candidates object) (reasons.bases object) =
@@ -159,38 +156,26 @@ module _ (old new : ReplicaState) (asked : Asked) (group : List (ObjectId × ℕ
         })
     made_or_found (body.Ask parts) reasons object never = absurd never
     made_or_found (body.Mend target) reasons object mended =
-        by_remedy object (candidates object) reasons.version (reasons.remedy object mended)
+        by_remedy (candidates object) (reasons.versions object) (reasons.remedy object mended)
       where
-        alone : (mended : ObjectId) (candidate : Candidate)
-            → IsMade old.keys.bounds asked (mended ∷ []) mended candidate
-            → IsMade old.keys.bounds asked (target ∷ []) mended candidate
-        alone mended candidate made = record { stamp = made.stamp; prior = made.prior; group = made.group }
+        made_so : (candidate : Candidate) (barrier : Bool) → candidate.stamp.barrier ≡ barrier
+            → IsMade old.keys.bounds asked (made_on old.keys.bounds asked (body.Mend target) object barrier) object
+            candidate
+            → IsMadeFrom old.keys.bounds asked (body.Mend target) object candidate
+        made_so candidate barrier is made =
+            subst (λ (it : Bool). IsMade old.keys.bounds asked
+            (made_on old.keys.bounds asked (body.Mend target) object it) object candidate) (sym is) made
 
-        by_remedy : (mended : ObjectId) (candidate : Candidate) (version : Option ObjState)
-            → IsRemedy old asked mended candidate version
-            → IsMade old.keys.bounds asked (target ∷ []) mended candidate
-            ⊎ IsFound old.keys.bounds asked mended candidate
-        by_remedy mended candidate version (IsRemedy.inline_barrier barrier found) = inr found
-        by_remedy mended candidate version (IsRemedy.inline_method state plain found stored) = inr found
-        by_remedy mended candidate version (IsRemedy.barrier barrier made) = inl (alone mended candidate made)
-        by_remedy mended candidate version
-            (IsRemedy.copy latest state plain made single barrier is_latest full stored) =
-            inl (alone mended candidate made)
-
--- with the objects of a group no version is stored
-pub group_stores_none : (old new : ReplicaState) (asked : Asked) (target : ObjectId) (member : ObjectId × ℕ)
-    (later : List (ObjectId × ℕ)) (candidates : ObjectId → Candidate)
-    (mends : Mends old new asked target (member ∷ later) candidates) → mends.version ≡ None
-group_stores_none old new asked target member later candidates mends =
-    by_remedy (candidates member.0) mends.version (mends.whole member.0 (inl refl)) (mends.remedy member.0 (inl refl))
-  where
-    by_remedy : (candidate : Candidate) (version : Option ObjState) → candidate.group ≡ member ∷ later
-        → IsRemedy old asked member.0 candidate version → version ≡ None
-    by_remedy candidate version whole (IsRemedy.inline_barrier barrier found) = refl
-    by_remedy candidate version whole (IsRemedy.inline_method state plain found stored) = refl
-    by_remedy candidate version whole (IsRemedy.barrier barrier made) = refl
-    by_remedy candidate version whole (IsRemedy.copy latest state plain made single barrier is_latest full stored) =
-        absurd (cons-nil member later (sym whole ∙ made.group))
+        by_remedy : (candidate : Candidate) (version : Option ObjState)
+            → IsRemedy old asked object candidate version
+            → IsMadeFrom old.keys.bounds asked (body.Mend target) object candidate
+            ⊎ IsFound old.keys.bounds asked object candidate
+        by_remedy candidate version (IsRemedy.inline_barrier barrier found) = inr found
+        by_remedy candidate version (IsRemedy.inline_method state plain found stored) = inr found
+        by_remedy candidate version (IsRemedy.barrier barrier made) = inl (made_so candidate true barrier made)
+        by_remedy candidate version
+            (IsRemedy.copy latest state plain made together barrier is_latest full stored) =
+            inl (made_so candidate false plain made)
 
 -- what has an act's digest was made for an act
 pub record IsOfAct (old new : ReplicaState) (asked : Asked) (asks : Body) (candidates : ObjectId → Candidate)

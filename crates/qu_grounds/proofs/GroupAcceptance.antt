@@ -1,4 +1,4 @@
--- What a replica accepts on all objects of a group upon a request to mend one of them: the candidates that it is shown.
+-- What a replica accepts on all objects of a group upon a request to mend one of them.
 use Rattle.std.proofs.Common.{◌≡◌, ◌==◌, ℕ, Bool, true, false, cond, List, [], ◌∷◌, ◌++◌, map, length, Option, None, Some, inl, inr, refl, sym, ap, subst, ◌∙◌, ◌≤◌, arith}
 use Rattle.std.specs.Prelude.{find, option_map}
 use Rattle.std.specs.List.{AllByRecursion, list_all}
@@ -14,11 +14,10 @@ use Rattle.qu_stamp.proofs.Order.{equal_by_same_stamp}
 use Rattle.qu_history.specs.Sets.{latest_of, entries_of}
 use Rattle.qu_history.specs.declared.sets.SetOf.{SetOf}
 use Rattle.qu_history.specs.Culling.{culled}
-use Rattle.qu_class.specs.declared.class.Class.{Class}
-use Rattle.qu_class.specs.declared.class.Class.TheVariants.{Method, InlineMethod, Copy, InlineBarrier, Barrier, Needs}
+use Rattle.qu_class.specs.declared.class.Class.TheVariants.{InlineMethod}
 use Rattle.qu_class.specs.Class.{agrees, is_latest, listed_stamp, class_in}
 use Rattle.qu_class.specs.Repairable.{object_base}
-use Rattle.qu_mends.specs.Remedy.{group_of}
+use Rattle.qu_mends.specs.Remedy.{whole_group}
 use Rattle.qu_mends.proofs.Members.{inline_joined}
 use Rattle.qu_frames.specs.declared.frame.Body.TheVariants as body
 use Rattle.qu_frames.specs.declared.frame.Frame.TheVariants as frame
@@ -26,19 +25,20 @@ use Rattle.qu_base.specs.declared.party.ClientId.{ClientId}
 use Rattle.qu_mends.specs.declared.accepted.Accepted.{Accepted}
 use Rattle.qu_mends.specs.Table.{candidates_in}
 use Rattle.qu_rows.specs.State.{ReplicaState, own_latest}
-use Rattle.qu_rows.specs.Rows.{Asked, asked_at, shown_of}
+use Rattle.qu_objects.specs.declared.state.ObjState.{ObjState}
+use Rattle.qu_rows.specs.Rows.{Asked, asked_at, shown_of, objects_of}
 use Rattle.qu_rows.specs.Allowed.{MayAcceptAll}
 use Rattle.qu_versions.specs.declared.stored.Stored.{Stored}
-use Rattle.qu_fitting.specs.Holding.{accept_all, accepted_of, stored_all}
+use Rattle.qu_fitting.specs.Holding.{accept_all, accepted_of, stored_if, stored_all}
 use Rattle.qu_fitting.proofs.AcceptingAll.{accept_all-is, accepted_may, history_of}
 use Rattle.qu_replica.specs.Growth.{HoldsAlike}
 use Rattle.qu_claims.specs.Parts.{Names}
-use Rattle.qu_claims.specs.Grounds.{Accepts, IsRemedy}
+use Rattle.qu_claims.specs.Grounds.{Accepts, IsRemedy, stored_mended}
 use Rattle.qu_grounds.proofs.ActAcceptance.{own_after, candidates_after}
 use Rattle.qu_grounds.proofs.Together.{time_in, time_is, member_is}
 
 -- what holds of each member holds of each object that they name
-each_member : (P : ObjectId → Type 0) (group : List (ObjectId × ℕ)) → AllByRecursion (λ member. P member.0) group
+pub each_member : (P : ObjectId → Type 0) (group : List (ObjectId × ℕ)) → AllByRecursion (λ member. P member.0) group
     → (object : ObjectId) → Names group object → P object
 each_member P [] all object names = absurd names
 each_member P (member ∷ later) all object (inl same) = subst P same all.0
@@ -46,9 +46,9 @@ each_member P (member ∷ later) all object (inr named) = each_member P later al
 
 -- ---- what is accepted of each
 
-module _ (candidates : ObjectId → Candidate) where
+module _ (candidates : ObjectId → Candidate) (versions : ObjectId → Option ObjState) where
   abbrev pub joined : ObjectId → Accepted
-  joined object = record { object = object; candidate = candidates object; state = None }
+  joined object = record { object = object; candidate = candidates object; state = versions object }
 
   abbrev pub all_joined : List (ObjectId × ℕ) → List Accepted
   all_joined group = map (λ (member : ObjectId × ℕ). joined member.0) group
@@ -77,35 +77,41 @@ module _ (candidates : ObjectId → Candidate) where
       by true is so_far = absurd (other (inl (ap (λ (number : ℕ). record { 0 = number }) (eqb-true _ _ is))))
       by false is so_far = so_far
 
-  none_stored : (group : List (ObjectId × ℕ)) → stored_all (all_joined group) ≡ []
-  none_stored [] = refl
-  none_stored (member ∷ later) = none_stored later
+  all_stored : (group : List (ObjectId × ℕ))
+      → stored_all (all_joined group) ≡ stored_mended candidates versions (objects_of group)
+  all_stored [] = refl
+  all_stored (member ∷ later) =
+      ap (λ (rest : List Stored). stored_if member.0 (candidates member.0).stamp (versions member.0) ++ rest)
+      (all_stored later)
 
 -- ---- what is added on a group
 
-no_member : {X : Type 0} (item : X) (items : List X) → [] ≡ item ∷ items → ⊥
+pub no_member : {X : Type 0} (item : X) (items : List X) → [] ≡ item ∷ items → ⊥
 no_member item items same = omega (arith, ap length same)
 
--- the object candidate is added on an object
-pub record IsJoinedAt (state : ReplicaState) (asked : Asked) (group : List (ObjectId × ℕ)) (object : ObjectId)
+module _ (state : ReplicaState) (asked : Asked) (group : List (ObjectId × ℕ)) (candidates : ObjectId → Candidate)
+    (versions : ObjectId → Option ObjState) where
+  -- on an object
+  pub record IsJoinedAt (object : ObjectId) : Type 0 where
+    pub enough : quorum state.keys.bounds ≤ length (shown_of asked object)
+    pub current : is_below (latest_of (shown_of asked object)) (own_latest state object) ≡ false
+    pub above : is_below (own_latest state object) (candidates object).stamp ≡ true
+    pub whole : (candidates object).group ≡ group
+    pub remedy : IsRemedy state asked object (candidates object) (versions object)
+
+-- and on all of the group, which lists the stamp of each
+pub record AddsGroup (state : ReplicaState) (asked : Asked) (group : List (ObjectId × ℕ)) (accepted : List Accepted)
     : Type 0 where
-  pub enough : quorum state.keys.bounds ≤ length (shown_of asked object)
-  pub current : is_below (latest_of (shown_of asked object)) (own_latest state object) ≡ false
-  pub above : is_below (own_latest state object) (object_base state.keys.bounds (shown_of asked object)).stamp ≡ true
-  pub whole : (object_base state.keys.bounds (shown_of asked object)).group ≡ group
-  pub remedy : IsRemedy state asked object (object_base state.keys.bounds (shown_of asked object)) None
+  pub candidates : ObjectId → Candidate
+  pub versions : ObjectId → Option ObjState
+  pub all : accepted ≡ all_joined candidates versions group
+  pub each : (object : ObjectId) → Names group object → IsJoinedAt state asked group candidates versions object
+  pub listed : (object other : ObjectId) → Names group object → Names group other
+      → member_on (candidates object) other ≡ Some (candidates other).stamp
 
 -- the object candidates of these objects have the stamps that the group of the first lists
 abbrev pub HaveListed : Candidate → (ObjectId → Candidate) → List (ObjectId × ℕ) → Type 0
 HaveListed first base members = AllByRecursion (λ member. (base member.0).stamp ≡ listed_stamp first member) members
-
--- and on all objects of its group
-pub record AddsGroup (state : ReplicaState) (asked : Asked) (group : List (ObjectId × ℕ)) (accepted : List Accepted)
-    : Type 0 where
-  pub all : accepted ≡ all_joined (λ object. object_base state.keys.bounds (shown_of asked object)) group
-  pub each : AllByRecursion (λ member. IsJoinedAt state asked group member.0) group
-  pub first : Candidate
-  pub stamps : HaveListed first (λ object. object_base state.keys.bounds (shown_of asked object)) group
 
 -- ---- the stamps that it lists
 
@@ -174,20 +180,13 @@ module _ (bounds : ℕ) (sets : List SetOf) where
   whole_is group true member later is = is
   whole_is group false member later is = absurd (no_member member later is)
 
-  -- the object candidates of the group that is mended
-  pub group_stamps : (object : ObjectId) (class : Class) (member : ObjectId × ℕ) (later : List (ObjectId × ℕ))
-      → class_in bounds sets object ≡ class → group_of class ≡ member ∷ later
-      → (first : Candidate) × HaveListed first base_on (member ∷ later)
-  group_stamps object (Method candidate) member later is group = absurd (no_member member later group)
-  group_stamps object (InlineMethod candidate) member later is group = (
-    candidate,
-    subst (HaveListed candidate base_on) (whole_is candidate.group (is_group candidate.group) member later group)
-        (agreeing_stamps candidate candidate.group (inline_joined bounds sets object candidate is).1),
-  )
-  group_stamps object Copy member later is group = absurd (no_member member later group)
-  group_stamps object (InlineBarrier candidate) member later is group = absurd (no_member member later group)
-  group_stamps object (Barrier prior) member later is group = absurd (no_member member later group)
-  group_stamps object (Needs absent) member later is group = absurd (no_member member later group)
+  -- the object candidates of the group that is added as it is
+  pub group_stamps : (object : ObjectId) (candidate : Candidate) (member : ObjectId × ℕ) (later : List (ObjectId × ℕ))
+      → class_in bounds sets object ≡ InlineMethod candidate → whole_group candidate.group ≡ member ∷ later
+      → HaveListed candidate base_on (member ∷ later)
+  group_stamps object candidate member later is group =
+      subst (HaveListed candidate base_on) (whole_is candidate.group (is_group candidate.group) member later group)
+      (agreeing_stamps candidate candidate.group (inline_joined bounds sets object candidate is).1)
 
 -- ---- the request
 
@@ -197,16 +196,13 @@ module _ (state new : ReplicaState) (client : ClientId) (number round : ℕ) (se
   abbrev asked : Asked
   asked = asked_at state client number sent (body.Mend target)
 
-  abbrev candidates : ObjectId → Candidate
-  candidates object = object_base state.keys.bounds (shown_of asked object)
-
   pub adds_group : (member : ObjectId × ℕ) (later : List (ObjectId × ℕ))
       → AddsGroup state asked (member ∷ later) accepted
       → Accepts state new (frame.Request client number round sent (body.Mend target) mac)
   adds_group member later made =
       let group : List (ObjectId × ℕ) = member ∷ later in
-      let each : (object : ObjectId) → Names group object → IsJoinedAt state asked group object =
-      each_member (IsJoinedAt state asked group) group made.each in
+      let candidates : ObjectId → Candidate = made.candidates in
+      let versions : ObjectId → Option ObjState = made.versions in
       record {
         client = client;
         number = number;
@@ -220,9 +216,10 @@ module _ (state new : ReplicaState) (client : ClientId) (number round : ℕ) (se
         group = group;
         candidates = candidates;
         added = λ object names.
-            let one : Accepted = record { object = object; candidate = candidates object; state = None } in
+            let one : Accepted =
+            record { object = object; candidate = candidates object; state = versions object } in
             let found : accepted_of object accepted ≡ Some one =
-            ap (accepted_of object) made.all ∙ of_member candidates group object names in
+            ap (accepted_of object) made.all ∙ of_member candidates versions group object names in
             own_after state new accepted may is_new object
             ∙ ap (λ (it : Option Accepted). candidates_in (history_of state.histories object it)) found
             ∙ candidates_after object.0 (candidates object) state.histories
@@ -230,19 +227,17 @@ module _ (state new : ReplicaState) (client : ClientId) (number round : ℕ) (se
         others = λ object apart.
             own_after state new accepted may is_new object
             ∙ ap (λ (it : Option Accepted). candidates_in (history_of state.histories object it))
-            (ap (accepted_of object) made.all ∙ of_no_member candidates group object apart);
+            (ap (accepted_of object) made.all ∙ of_no_member candidates versions group object apart);
         reasons = record {
-          enough = λ object names. (each object names).enough;
-          current = λ object names. (each object names).current;
-          above = λ object names. (each object names).above;
-          whole = λ object names. (each object names).whole;
-          listed = λ object other names besides.
-              members_listed made.first candidates group made.stamps object other (each object names).whole names
-              besides;
-          version = None;
-          remedy = λ object names. (each object names).remedy;
+          enough = λ object names. (made.each object names).enough;
+          current = λ object names. (made.each object names).current;
+          above = λ object names. (made.each object names).above;
+          whole = λ object names. (made.each object names).whole;
+          listed = made.listed;
+          versions = versions;
+          remedy = λ object names. (made.each object names).remedy;
           stored = is_new.versions ∙ ap (λ (it : ReplicaState). it.versions) (accept_all-is state accepted)
               ∙ ap (λ (it : List Accepted). state.versions ++ stored_all it) made.all
-              ∙ ap (λ (it : List Stored). state.versions ++ it) (none_stored candidates group);
+              ∙ ap (λ (it : List Stored). state.versions ++ it) (all_stored candidates versions group);
         };
       }

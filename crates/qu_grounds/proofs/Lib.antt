@@ -5,5 +5,6 @@ pub mod Together
 pub mod ActAcceptance
 pub mod GroupAcceptance
 pub mod Remedies
+pub mod CopyAcceptance
 pub mod Acceptance
 pub mod Performed

@@ -1,10 +1,11 @@
 -- Whether the parts of an operation name an object.
-use Rattle.std.proofs.Common.{◌⊎◌, ℕ, List, [], ◌∷◌, inl, inr, ap}
+use Rattle.std.proofs.Common.{◌≡◌, ◌⊎◌, ℕ, List, [], ◌∷◌, inl, inr, ap}
 use Rattle.std.proofs.lemmas.Bool.{cases_eq}
 use Rattle.qu_base.specs.declared.party.ObjectId.{ObjectId}
 use Rattle.qu_claims.specs.Parts.{Names}
+use Rattle.qu_rows.specs.Rows.{objects_of}
 use Rattle.qu_frames.specs.declared.frame.Body.{Body}
-use Rattle.qu_claims.specs.Grounds.{AddsTo, MendsOn}
+use Rattle.qu_claims.specs.Grounds.{AddsTo, MendsOn, mended_objects}
 use Rattle.qu_frames.specs.declared.frame.Body.TheVariants as body
 
 pub named_or_not : {X : Type 0} (parts : List (ObjectId × X)) (object : ObjectId)
@@ -39,3 +40,32 @@ pub adds_or_not : (asks : Body) (group : List (ObjectId × ℕ)) (object : Objec
 adds_or_not (body.Act parts) group object = named_or_not parts object
 adds_or_not (body.Ask parts) group object = inr (λ never. never)
 adds_or_not (body.Mend target) group object = mends_or_not target group object
+
+-- ---- what a request mends
+
+abbrev pub Lists : List ObjectId → ObjectId → Type 0
+Lists [] object = ⊥
+Lists (first ∷ later) object = (first ≡ object) ⊎ Lists later object
+
+listed_named : {X : Type 0} (parts : List (ObjectId × X)) (object : ObjectId) → Lists (objects_of parts) object
+    → Names parts object
+listed_named [] object never = never
+listed_named (part ∷ later) object (inl same) = inl same
+listed_named (part ∷ later) object (inr there) = inr (listed_named later object there)
+
+named_listed : {X : Type 0} (parts : List (ObjectId × X)) (object : ObjectId) → Names parts object
+    → Lists (objects_of parts) object
+named_listed [] object never = never
+named_listed (part ∷ later) object (inl same) = inl same
+named_listed (part ∷ later) object (inr there) = inr (named_listed later object there)
+
+pub listed_mended : (target : ObjectId) (group : List (ObjectId × ℕ)) (object : ObjectId)
+    → Lists (mended_objects target group) object → MendsOn target group object
+listed_mended target [] object (inl same) = same
+listed_mended target [] object (inr never) = absurd never
+listed_mended target (member ∷ later) object listed = listed_named (member ∷ later) object listed
+
+pub mended_listed : (target : ObjectId) (group : List (ObjectId × ℕ)) (object : ObjectId)
+    → MendsOn target group object → Lists (mended_objects target group) object
+mended_listed target [] object is = inl is
+mended_listed target (member ∷ later) object named = named_listed (member ∷ later) object named

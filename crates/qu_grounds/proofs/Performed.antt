@@ -1,6 +1,6 @@
 -- The versions of accepted candidates are the parts of the act performed upon the versions of their bases.
-use Rattle.std.proofs.Common.{◌≡◌, ◌==◌, ◌⊎◌, ℕ, Bool, true, false, cond, List, [], ◌∷◌, ◌++◌, None, Some, inl, inr, refl, sym, ap, subst, ◌∙◌, Option}
-use Rattle.std.proofs.lemmas.Bool.{cases_Bool, and_from, and_parts, eq-eqb, eqb-true}
+use Rattle.std.proofs.Common.{◌≡◌, ◌==◌, ◌⊎◌, ℕ, Bool, true, false, ◌&&◌, cond, List, [], ◌∷◌, ◌++◌, None, Some, inl, inr, refl, sym, ap, subst, ◌∙◌, Option}
+use Rattle.std.proofs.lemmas.Bool.{false≢true, cases_Bool, and_from, and_parts, eq-eqb, eqb-true}
 use Rattle.std.proofs.lemmas.Option.{none-some}
 use Rattle.qu_base.specs.declared.party.ObjectId.{ObjectId}
 use Rattle.qu_stamp.specs.declared.stamp.Stamp.{Stamp}
@@ -14,9 +14,9 @@ use Rattle.qu_rows.specs.State.{ReplicaState}
 use Rattle.qu_fitting.specs.Holding.{stored_if}
 use Rattle.qu_versions.specs.Versions.{is_stored, version_at}
 use Rattle.qu_claims.specs.Parts.{Names}
-use Rattle.qu_claims.specs.Grounds.{stored_of, Performs, Reasons, AddsTo, IsRemedy}
+use Rattle.qu_claims.specs.Grounds.{stored_of, Performs, Reasons, AddsTo, MendsOn, mended_objects, stored_mended, IsRemedy}
 use Rattle.qu_rows.specs.Rows.{Asked}
-use Rattle.qu_grounds.proofs.Grounds.{group_stores_none}
+use Rattle.qu_grounds.proofs.Parts.{Lists, listed_mended, mended_listed}
 use Rattle.qu_frames.specs.declared.frame.Body.{Body}
 use Rattle.qu_frames.specs.declared.frame.Body.TheVariants as body
 
@@ -139,13 +139,6 @@ version_of_performed old new asked parts candidates performs object names none =
     ∙ version_at-later object (candidates object).stamp old.versions _ none
     ∙ named_stored candidates performs.versions parts object names
 
--- and of what is added to mend an object
-pub version_of_mended : (old new : ReplicaState) (target : ObjectId) (stamp : Stamp) (version : ObjState)
-    → new.versions ≡ old.versions ++ stored_if target stamp (Some version)
-    → version_at target stamp old.versions ≡ None → version_at target stamp new.versions ≡ Some version
-version_of_mended old new target stamp version stored none =
-    ap (version_at target stamp) stored ∙ version_at-push target stamp old.versions version none
-
 -- ---- what is stored anew
 
 -- a version that is found among those that are stored is of what is added
@@ -177,7 +170,92 @@ remedy_plain state asked target candidate stored (IsRemedy.inline_method its pla
 remedy_plain state asked target candidate stored (IsRemedy.barrier barrier made) object under version found =
     absurd (none-some version found)
 remedy_plain state asked target candidate stored
-    (IsRemedy.copy latest its plain made single barrier is_latest full is) object under version found = plain
+    (IsRemedy.copy latest its plain made together barrier is_latest full is) object under version found = plain
+
+-- of those that are mended it is one
+module _ (candidates : ObjectId → Candidate) (versions : ObjectId → Option ObjState) where
+  record IsOfMended (objects : List ObjectId) (object : ObjectId) (stamp : Stamp) (version : ObjState) : Type 0 where
+    among : Lists objects object
+    under : (candidates object).stamp ≡ stamp
+    found : version_at object stamp (stored_if object (candidates object).stamp (versions object)) ≡ Some version
+
+  of_mended : (objects : List ObjectId) (object : ObjectId) (stamp : Stamp) (version : ObjState)
+      → version_at object stamp (stored_mended candidates versions objects) ≡ Some version
+      → IsOfMended objects object stamp version
+  unfolding version_at
+  of_mended [] object stamp version found = absurd (none-some version found)
+  of_mended (mended ∷ later) object stamp version found =
+      elim (stored_cases object stamp (stored_if mended (candidates mended).stamp (versions mended)) _ version found) [
+        | inl here ↦
+            let both : (mended ≡ object) × ((candidates mended).stamp ≡ stamp) =
+            among_mended mended object (candidates mended).stamp stamp (versions mended) version here in
+            record {
+              among = inl both.0;
+              under = ap (λ (it : ObjectId). (candidates it).stamp) (sym both.0) ∙ both.1;
+              found = subst (λ (it : ObjectId).
+                  version_at object stamp (stored_if it (candidates it).stamp (versions it)) ≡ Some version) both.0
+                  here;
+            }
+        | inr there ↦
+            let rest : IsOfMended later object stamp version = of_mended later object stamp version there in
+            record { among = inr rest.among; under = rest.under; found = rest.found }
+      ]
+
+  -- and the version of each is found
+  head_found : (mended : ObjectId) (found : Option ObjState) (rest : List Stored) (version : ObjState)
+      → found ≡ Some version
+      → version_at mended (candidates mended).stamp (stored_if mended (candidates mended).stamp found ++ rest)
+      ≡ Some version
+  unfolding version_at
+  head_found mended found rest version is =
+      let stamp : Stamp = (candidates mended).stamp in
+      ap (λ (it : Option ObjState). version_at mended stamp (stored_if mended stamp it ++ rest)) is
+      ∙ ap (λ (test : Bool). cond test (Some version) (version_at mended stamp rest))
+      (and_from _ _ (eq-eqb mended.0 mended.0 refl) (same_stamp-self stamp))
+
+  head_passed : (mended object : ObjectId) (under stamp : Stamp) (found : Option ObjState) (rest : List Stored)
+      → (mended.0 == object.0) ≡ false
+      → version_at object stamp (stored_if mended under found ++ rest) ≡ version_at object stamp rest
+  unfolding version_at
+  head_passed mended object under stamp None rest other = refl
+  head_passed mended object under stamp (Some state) rest other =
+      ap (λ (test : Bool). cond (test && same_stamp under stamp) (Some state) (version_at object stamp rest)) other
+
+  mended_stored : (objects : List ObjectId) (object : ObjectId) (version : ObjState) → Lists objects object
+      → versions object ≡ Some version
+      → version_at object (candidates object).stamp (stored_mended candidates versions objects) ≡ Some version
+  mended_stored [] object version never has = absurd never
+  mended_stored (mended ∷ later) object version listed has =
+      elim (cases_Bool (mended.0 == object.0)) [
+        | inl here ↦
+            let same : mended ≡ object = ap (λ (it : ℕ). record { 0 = it }) (eqb-true mended.0 object.0 here) in
+            subst (λ (it : ObjectId). version_at it (candidates it).stamp
+            (stored_mended candidates versions (mended ∷ later)) ≡ Some version) same
+            (head_found mended (versions mended) (stored_mended candidates versions later) version
+            (ap versions same ∙ has))
+        | inr other ↦
+            head_passed mended object (candidates mended).stamp (candidates object).stamp (versions mended)
+            (stored_mended candidates versions later) other
+            ∙ mended_stored later object version (later_listed other listed) has
+      ]
+    where
+      later_listed : (mended.0 == object.0) ≡ false → Lists (mended ∷ later) object → Lists later object
+      later_listed other (inl same) =
+          absurd (false≢true (sym other ∙ eq-eqb _ _ (ap (λ (it : ObjectId). it.0) same)))
+      later_listed other (inr there) = there
+
+-- the version of what is added to mend objects, where the replica held none under its stamp
+pub version_of_mended : (old new : ReplicaState) (candidates : ObjectId → Candidate)
+    (versions : ObjectId → Option ObjState) (target : ObjectId) (group : List (ObjectId × ℕ)) (object : ObjectId)
+    (version : ObjState) → new.versions ≡ old.versions ++ stored_mended candidates versions (mended_objects target group)
+    → MendsOn target group object → versions object ≡ Some version
+    → version_at object (candidates object).stamp old.versions ≡ None
+    → version_at object (candidates object).stamp new.versions ≡ Some version
+version_of_mended old new candidates versions target group object version stored mends has none =
+    ap (version_at object (candidates object).stamp) stored
+    ∙ version_at-later object (candidates object).stamp old.versions _ none
+    ∙ mended_stored candidates versions (mended_objects target group) object version
+    (mended_listed target group object mends) has
 
 -- a candidate without barrier, with this stamp, that a request adds to the object
 pub record IsAddedUnder (asks : Body) (group : List (ObjectId × ℕ)) (candidates : ObjectId → Candidate)
@@ -206,29 +284,18 @@ stored_before old new asked (body.Act parts) group candidates reasons object sta
           })
     ]
 stored_before old new asked (body.Ask parts) group candidates reasons object stamp version found = absurd reasons
-stored_before old new asked (body.Mend target) (member ∷ later) candidates reasons object stamp version found =
-    elim (stored_cases object stamp old.versions _ version
-    (ap (version_at object stamp) (sym reasons.stored) ∙ found)) [
-      | inl before ↦ inl before
-      | inr newest ↦ absurd (none-some version
-          (sym (ap (λ (it : Option ObjState). version_at object stamp
-          (stored_if target (candidates target).stamp it))
-          (group_stores_none old new asked target member later candidates reasons)) ∙ newest))
-    ]
-stored_before old new asked (body.Mend target) [] candidates reasons object stamp version found =
+stored_before old new asked (body.Mend target) group candidates reasons object stamp version found =
     elim (stored_cases object stamp old.versions _ version
     (ap (version_at object stamp) (sym reasons.stored) ∙ found)) [
       | inl before ↦ inl before
       | inr newest ↦
-          let both : (target ≡ object) × ((candidates target).stamp ≡ stamp) =
-          among_mended target object (candidates target).stamp stamp reasons.version version newest in
-          let plain : (candidates target).stamp.barrier ≡ false =
-          remedy_plain old asked target (candidates target) reasons.version (reasons.remedy target refl) object stamp
-          version newest
-          in
+          let it : IsOfMended candidates reasons.versions (mended_objects target group) object stamp version =
+          of_mended candidates reasons.versions (mended_objects target group) object stamp version newest in
+          let adds : MendsOn target group object = listed_mended target group object it.among in
           inr (record {
-            adds = both.0;
-            under = ap (λ (it : ObjectId). (candidates it).stamp) (sym both.0) ∙ both.1;
-            plain = ap (λ (it : ObjectId). (candidates it).stamp.barrier) (sym both.0) ∙ plain;
+            adds = adds;
+            under = it.under;
+            plain = remedy_plain old asked object (candidates object) (reasons.versions object)
+                (reasons.remedy object adds) object stamp version it.found;
           })
     ]

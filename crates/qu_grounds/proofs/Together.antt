@@ -7,14 +7,14 @@ use Rattle.qu_base.specs.declared.party.ObjectId.{ObjectId}
 use Rattle.qu_stamp.specs.declared.stamp.Stamp.{Stamp}
 use Rattle.qu_stamp.specs.declared.candidate.Candidate.{Candidate}
 use Rattle.qu_stamp.specs.Candidate.{member as member_on}
-use Rattle.qu_stamp.specs.Group.{listed_time}
+use Rattle.qu_stamp.specs.Group.{is_group, listed_time}
 use Rattle.qu_stamp.proofs.Groups.{alone_has_no_member}
 use Rattle.qu_objects.specs.declared.act.Method.{Method}
 use Rattle.qu_frames.specs.declared.frame.Body.{Body}
 use Rattle.qu_frames.specs.declared.frame.Body.TheVariants as body
-use Rattle.qu_rows.specs.Rows.{Asked, fresh_stamp, objects_of}
+use Rattle.qu_rows.specs.Rows.{Asked, fresh_stamp, fresh_group, objects_of}
 use Rattle.qu_rows.specs.State.{ReplicaState}
-use Rattle.qu_claims.specs.Grounds.{AddsTo, MendsOn, Reasons, fresh_group}
+use Rattle.qu_claims.specs.Grounds.{AddsTo, MendsOn, Reasons}
 use Rattle.qu_claims.specs.Parts.{Names}
 use Rattle.qu_claims.specs.Setting.{Apart}
 
@@ -125,16 +125,24 @@ module _ (asked : Asked) where
   fresh_lists (first ∷ second ∷ later) object other names besides apart =
       lists_part time_on (first ∷ second ∷ later) other besides
 
-  fresh_listed : (parts : List (ObjectId × Method)) (other : ObjectId) (time : ℕ)
+  -- and of copies, with those on the objects of a group
+  pub group_lists : (group : List (ObjectId × ℕ)) → is_group group ≡ true → (other : ObjectId) → Names group other
+      → listed_time other (fresh_group asked (objects_of group)) ≡ Some (time_on other)
+  unfolding is_group
+  group_lists [] is other names = absurd names
+  group_lists (member ∷ []) is other names = absurd (false≢true is)
+  group_lists (first ∷ second ∷ later) is other names = lists_part time_on (first ∷ second ∷ later) other names
+
+  pub fresh_listed : {X : Type 0} (parts : List (ObjectId × X)) (other : ObjectId) (time : ℕ)
       → listed_time other (fresh_group asked (objects_of parts)) ≡ Some time
       → Names parts other × (time_on other ≡ time)
   fresh_listed [] other time listed = absurd (listed_named [] other time listed)
   fresh_listed (part ∷ []) other time listed = absurd (listed_named [] other time listed)
   fresh_listed (first ∷ second ∷ later) other time listed =
-      let parts : List (ObjectId × Method) = first ∷ second ∷ later in
-      let named : Names parts other =
-      part_listed time_on parts other (listed_named (fresh_group asked (objects_of parts)) other time listed) in
-      (named, same_Some (time_on other) time (sym (lists_part time_on parts other named) ∙ listed))
+      let named : Names (first ∷ second ∷ later) other =
+      part_listed time_on (first ∷ second ∷ later) other
+      (listed_named (fresh_group asked (objects_of (first ∷ second ∷ later))) other time listed) in
+      (named, same_Some (time_on other) time (sym (lists_part time_on (first ∷ second ∷ later) other named) ∙ listed))
 
 -- ---- what a request adds
 

@@ -6,7 +6,8 @@ pub const FIRST_WORDS: &str =
 /// The parts that an operation can have.
 const OPERATIONS: &str =
     "call C OP, OP being add O N, take O N, put O HEX, append O HEX, link O NAME N, \
-    unlink O NAME, read O, cat O, find O NAME or list O";
+    unlink O NAME, read O, cat O, find O NAME or list O, or up to four of these, a + between each \
+    two, all of them updates or all queries, on objects that rise";
 
 /// How the line that begins with this word is written, if there is one.
 pub fn form_of(word: &[u8]) -> Option<&'static str> {

@@ -4,6 +4,8 @@
 mod forms;
 mod place;
 mod rules;
+mod running;
 mod telling;
 
+pub use running::run_hint;
 pub use telling::hint;

@@ -11,7 +11,8 @@ pub fn rule_of(kind: BadKind) -> &'static str {
         BadKind::ExpectedObject => "behind clients stands object 0 KIND",
         BadKind::OutOfOrder => {
             "the setup stands first: objects 0, 1, 2 .., faulty replicas, then faulty clients, \
-            each above the one before"
+            each above the one before; parts of an OP are all updates or all queries, on objects \
+            that rise"
         }
         BadKind::UnknownWord => "a word from a fixed list stands here",
         BadKind::WrongCount => "the line has too few words or too many",
@@ -31,7 +32,7 @@ pub fn rule_of(kind: BadKind) -> &'static str {
 fn rule_of_run(kind: BadKind) -> &'static str {
     match kind {
         BadKind::NoSuchLetter =>
-            "letters have numbers from 1, in the order in which they were sent so far",
+            "letters have numbers from 1, in the order in which they were sent",
         BadKind::Busy => "the client has an operation under way",
         BadKind::NoRequest =>
             "the client sent no request yet, or the replica that is echoed did not reply to it",

@@ -9,8 +9,13 @@ use std::str;
 /// So many bytes of a word are told.
 const MOST_TOLD: usize = 40;
 
-/// A line that tells what could stand where this script is refused; `live` where threads run it.
-pub fn hint(alloc: Global, live: bool, text: &[u8], bad: Bad) -> Result<String, NoMemory> {
+/// A line that tells what could stand where this text is no script; `live` where threads are to run it. None where
+/// there is no memory for it.
+pub fn hint(alloc: Global, live: bool, text: &[u8], bad: Bad) -> Option<String> {
+    told(alloc, live, text, bad).ok()
+}
+
+fn told(alloc: Global, live: bool, text: &[u8], bad: Bad) -> Result<String, NoMemory> {
     let line = bad.line;
     let rule = rule_of(bad.kind);
     match place_in(alloc, live, text)? {

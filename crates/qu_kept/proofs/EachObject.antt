@@ -1,9 +1,10 @@
 -- What an act makes of the versions of its objects, by functions of the objects.
-use Rattle.std.proofs.Common.{◌≡◌, ℕ, ◌==◌, Bool, true, false, IsTrue, List, [], ◌∷◌, length, map, refl, sym, ap, ◌∙◌, arith}
-use Rattle.std.specs.Prelude.{if◌then◌else◌, zip}
+use Rattle.std.proofs.Common.{◌≡◌, ℕ, ◌+◌, ◌<◌, ◌≤◌, ◌==◌, ◌&&◌, Bool, true, false, IsTrue, List, [], ◌∷◌, length, map, refl, sym, ap, ◌∙◌, arith}
+use Rattle.std.specs.Prelude.{if◌then◌else◌, nat_le, nat_lt, zip}
 use Rattle.std.specs.List.{AllByRecursion}
-use Rattle.std.proofs.lemmas.Bool.{false≢true, eqb-true, eq-eqb}
+use Rattle.std.proofs.lemmas.Bool.{and_parts, leb-true, eqb-true, eq-eqb}
 use Rattle.std.proofs.lemmas.List.{length-map}
+use Rattle.qu_base.specs.declared.limits.TheConstants.{OBJECT_IDS}
 use Rattle.qu_base.specs.declared.party.ClientId.{ClientId}
 use Rattle.qu_base.specs.declared.party.ObjectId.{ObjectId}
 use Rattle.qu_stamp.specs.declared.stamp.Stamp.{Stamp}
@@ -11,8 +12,9 @@ use Rattle.qu_objects.specs.declared.act.Method.{Method}
 use Rattle.qu_objects.specs.declared.kind.Value.{Value}
 use Rattle.qu_objects.specs.declared.state.KeptRow.{KeptRow}
 use Rattle.qu_objects.specs.declared.state.ObjState.{ObjState}
-use Rattle.qu_objects.specs.Parts.{are_parts}
+use Rattle.qu_objects.specs.Parts.{is_object_from, are_objects_from, are_parts}
 use Rattle.qu_objects.specs.Performing.{performed_values}
+use Rattle.qu_objects.proofs.PartLaws.{parts_are}
 use Rattle.qu_kept.specs.Performing.{values_of, row_by, links_to_others, state_after, written, states_after, performed_states}
 use Rattle.qu_kept.proofs.PerformedStates.{values_fit}
 
@@ -26,12 +28,30 @@ abbrev pub AreDistinct : List ObjectId → Type 0
 AreDistinct [] = Unit {0}
 AreDistinct (object ∷ later) = AllByRecursion (λ other. other ≡ object → ⊥) later × AreDistinct later
 
+-- a lower object is none of those that rise
+none_is : (lower : ObjectId) (least : ℕ) (objects : List ObjectId) → lower.0 < least
+    → IsTrue (are_objects_from least objects) → AllByRecursion (λ other. other ≡ lower → ⊥) objects
+unfolding are_objects_from
+none_is lower least [] order rise = tt
+none_is lower least (object ∷ later) order rise =
+    let both = and_parts (is_object_from least object) (are_objects_from (object.0 + 1) later) rise in
+    let here = and_parts (nat_le least object.0) (nat_lt object.0 OBJECT_IDS) both.0 in
+    let from : least ≤ object.0 = leb-true _ _ here.0 in (
+      λ same. let is : object.0 ≡ lower.0 = ap (λ (it : ObjectId). it.0) same in omega (arith, is, from, order),
+      none_is lower (object.0 + 1) later (omega (arith, from, order)) both.1,
+    )
+
+distinct_from : (least : ℕ) (objects : List ObjectId) → IsTrue (are_objects_from least objects) → AreDistinct objects
+unfolding are_objects_from
+distinct_from least [] rise = tt
+distinct_from least (object ∷ later) rise =
+    let both = and_parts (is_object_from least object) (are_objects_from (object.0 + 1) later) rise in
+    (none_is object (object.0 + 1) later (omega arith) both.1, distinct_from (object.0 + 1) later both.1)
+
 -- the parts of an operation are of different objects
 pub distinct_parts : {X : Type 0} (parts : List (ObjectId × X)) → IsTrue (are_parts parts)
     → AreDistinct (objects_named parts)
-distinct_parts [] are = tt
-distinct_parts (part ∷ []) are = (tt, tt)
-distinct_parts (first ∷ second ∷ later) are = absurd (false≢true are)
+distinct_parts parts are = distinct_from 0 (objects_named parts) (parts_are parts are).rise
 
 -- ---- the value of an object among those of the parts
 

@@ -1,5 +1,4 @@
 pub mod KeyedLaws
-pub mod OneObject
 pub mod EachObject
 pub mod PerformedStates
 pub mod RowLaws

@@ -11,6 +11,7 @@ use Rattle.qu_objects.specs.declared.act.Method.{Method}
 use Rattle.qu_objects.specs.declared.state.KeptRow.{KeptRow}
 use Rattle.qu_objects.specs.declared.state.ObjState.{ObjState}
 use Rattle.qu_objects.specs.Parts.{are_parts}
+use Rattle.qu_objects.proofs.PartLaws.{parts_are}
 use Rattle.qu_kept.specs.declared.repeats.Standing.{Standing}
 use Rattle.qu_kept.specs.declared.repeats.Standing.TheVariants.{Fresh, Already, Spent}
 use Rattle.qu_kept.specs.Rows.{client_of, row_of, with_row}
@@ -95,8 +96,8 @@ first_named client number (part ∷ parts) (state ∷ states) named kept spent =
 -- ---- what the row of the first object says, where the act is repeated
 
 some_parts : (parts : List (ObjectId × Method)) → IsTrue (are_parts parts) → 0 < length parts
-some_parts [] in_order = absurd cc
-some_parts (part ∷ parts) in_order = omega arith
+some_parts parts in_order =
+    let some : 1 ≤ length parts = (parts_are parts in_order).some in omega (arith, some)
 
 record IsTold (client : ClientId) (number : ℕ) (states : List ObjState) : Type 0 where
   already : is_already (told_by_first client states) ≡ true

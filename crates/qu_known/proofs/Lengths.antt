@@ -24,7 +24,7 @@ use Rattle.qu_history.specs.Formats.{next_stamp, next_candidate, candidates_form
 use Rattle.qu_objects.specs.declared.answer.Answer.TheVariants as answer
 use Rattle.qu_base.specs.declared.kind.Item.TheVariants.{Number, Bytes, Entries}
 use Rattle.qu_base.specs.declared.limits.TheConstants.{CONTENT_LIMIT, NAME_LIMIT, ENTRIES_LIMIT}
-use Rattle.qu_objects.specs.declared.limits.TheConstants.{PARTS_LIMIT}
+use Rattle.qu_objects.specs.declared.limits.TheConstants.{MOST_PARTS}
 use Rattle.qu_base.specs.Texts.{word_form, sized, content_form, name_form, named_form, after_name, spelled_name, listing_form}
 use Rattle.qu_objects.specs.Formats.{is_item_code, item_code, item_number, item_bytes, item_entries, any_name, item_body, item_form, items_form, part_refusal_form, is_answer_code, answer_code, answer_body, answer_form}
 use Rattle.qu_objects.specs.Formats as objects
@@ -302,7 +302,7 @@ answer-short =
     tagged-short 270349 is_answer_code answer_code answer_body (λ code.
     either-short 270349 _ _ _
     (made-short 270349 answer.Ok objects.answered items_form
-    (counted-short {K = Unit {0}} 1 4 67587 (number w8 1 PARTS_LIMIT) item_form.spell (λ before. item_form) (λ item. tt)
+    (counted-short {K = Unit {0}} 1 4 67587 (number w8 1 MOST_PARTS) item_form.spell (λ before. item_form) (λ item. tt)
     tt (byte-short 1 _) (λ many fits. fits.1) (λ before item fits. item-short.within item fits)))
     (made-short 270349 _ objects.refused_part part_refusal_form
     (shorter 2 270349 _ (omega arith)
@@ -329,7 +329,7 @@ refusal-short =
 stamps-short : IsShort 313 stamps_form
 unfolding stamps_form
 stamps-short =
-    counted-short 1 4 78 (number w8 1 PARTS_LIMIT) spelled_stamp stamp_from after_told 0 (byte-short 1 _)
+    counted-short 1 4 78 (number w8 1 MOST_PARTS) spelled_stamp stamp_from after_told 0 (byte-short 1 _)
     (λ many fits. fits.1)
     (λ least told fits. (both-short 2 76 (object_from least) _ (tested-short 2 _ Order object_form object-short)
     (λ object. stamp-short true)).within told fits)

@@ -1,5 +1,6 @@
 pub mod WordFacts
 pub mod ListedFacts
+pub mod PartFacts
 pub mod CommentFacts
 pub mod LiarFacts
 pub mod PhaseFacts

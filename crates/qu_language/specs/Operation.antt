@@ -1,21 +1,22 @@
--- The operations that clients of a script begin: each has one part.
-use Rattle.std.specs.Prelude.{ℕ, Bool, List, [], ◌∷◌, Result, Ok, Err, if◌then◌else◌, codes}
+-- The operations that clients of a script begin: one part or more, at most `MOST_PARTS`, with a `+` between each two.
+use Rattle.std.specs.Prelude.{ℕ, zero, suc, ◌-◌, List, [], ◌∷◌, Result, Ok, Err, if◌then◌else◌, codes}
 use Rattle.std.specs.Str.{bytes_eq}
 use Rattle.qu_base.specs.declared.party.ObjectId.{ObjectId}
 use Rattle.qu_objects.specs.declared.act.Method.TheVariants.{Add, Take, Put, Append, Link, Unlink}
 use Rattle.qu_objects.specs.declared.query.Ask.TheVariants.{Read, Cat, Find, All}
+use Rattle.qu_objects.specs.declared.limits.TheConstants.{MOST_PARTS}
 use Rattle.qu_objects.specs.declared.op.Op.{Op}
-use Rattle.qu_objects.specs.declared.op.Op.TheVariants as op
-use Rattle.qu_objects.specs.Parts.{is_sized_method, is_sized_ask}
 use Rattle.qu_language.specs.declared.bad.BadKind.{BadKind}
-use Rattle.qu_language.specs.declared.bad.BadKind.TheVariants.{UnknownWord}
+use Rattle.qu_language.specs.declared.bad.BadKind.TheVariants.{OutOfOrder, UnknownWord}
 use Rattle.qu_language.specs.declared.operation.Part.{Part}
 use Rattle.qu_language.specs.declared.operation.Part.TheVariants.{Does, Asks}
 use Rattle.qu_language.specs.declared.operation.Verb.{Verb}
 use Rattle.qu_language.specs.declared.operation.Verb.TheVariants as verb
+use Rattle.qu_language.specs.declared.parts.Parts.{Parts}
 use Rattle.qu_language.specs.Meaning.{then_good}
+use Rattle.qu_language.specs.Parts.{no_parts, may_precede, are_below, with_part, op_of}
 use Rattle.qu_language.specs.Rules.{number_rule, content_rule, name_rule, object_rule}
-use Rattle.qu_language.specs.Words.{next_of_part, end_of}
+use Rattle.qu_language.specs.Words.{next_of_part, behind_plus, end_of}
 
 -- ---- verbs
 
@@ -59,21 +60,39 @@ part_rule verb.Cat words = Ok (Asks Cat, words)
 part_rule verb.Find words = then_good (argument name_rule words) (λ name. Ok (Asks (Find name.0), name.1))
 part_rule verb.All words = Ok (Asks All, words)
 
-abbrev pub is_sized_part : Part → Bool
-is_sized_part (Does method) = is_sized_method method
-is_sized_part (Asks ask) = is_sized_ask ask
+-- ---- a part behind others: what is wrong with one of its words comes before what is wrong with those behind it
+
+abbrev pub verb_behind : Parts → List ℕ → Result Verb BadKind
+verb_behind parts word =
+    then_good (verb_rule word) (λ verb. if may_precede parts verb then Ok verb else Err OutOfOrder)
+
+abbrev pub object_behind : Parts → ℕ → List ℕ → Result ObjectId BadKind
+object_behind parts objects word =
+    then_good (object_rule objects word) (λ object. if are_below object parts then Ok object else Err OutOfOrder)
+
+-- a verb, one of so many objects, and what the verb needs: the parts with this one, and the words behind it
+unfoldable pub part_behind : ℕ → Parts → List (List ℕ) → Result (Parts × List (List ℕ)) BadKind
+part_behind objects parts words =
+    then_good (argument (verb_behind parts) words) (λ verb.
+    then_good (argument (object_behind parts objects) verb.1) (λ object.
+    then_good (part_rule verb.0 object.1) (λ part. Ok (with_part parts object.0 part.0, part.1))))
 
 -- ---- operations
 
-abbrev pub op_by : ObjectId → Part → Op
-op_by object (Does method) = op.Act ((object, method) ∷ [])
-op_by object (Asks ask) = op.Query ((object, ask) ∷ [])
+-- a part behind a `+`, if words are left
+unfoldable pub joined_part : ℕ → Parts → List (List ℕ) → Result (Parts × List (List ℕ)) BadKind
+joined_part objects parts [] = Ok (parts, [])
+joined_part objects parts (word ∷ words) =
+    then_good (behind_plus (word ∷ words)) (λ words. part_behind objects parts words)
 
--- a verb, one of so many objects, and what the verb needs
+-- all parts, where so many at most are left
+unfoldable pub more_parts : ℕ → ℕ → Parts → List (List ℕ) → Result Parts BadKind
+more_parts zero objects parts words = then_good (end_of words) (λ done. Ok parts)
+more_parts (suc most) objects parts words =
+    then_good (joined_part objects parts words) (λ next. more_parts most objects next.0 next.1)
+
+-- the operation of all its parts
 unfoldable pub op_rule : ℕ → List (List ℕ) → Result Op BadKind
 op_rule objects words =
-    then_good (next_of_part words) (λ first.
-    then_good (verb_rule first.0) (λ verb.
-    then_good (argument (object_rule objects) first.1) (λ object.
-    then_good (part_rule verb object.1) (λ part.
-    then_good (end_of part.1) (λ done. Ok (op_by object.0 part.0))))))
+    then_good (part_behind objects no_parts words) (λ first.
+    then_good (more_parts (MOST_PARTS - 1) objects first.0 first.1) (λ parts. Ok (op_of parts)))

@@ -60,3 +60,8 @@ some_of rule (word ∷ words) = all_of rule (word ∷ words)
 abbrev pub next_of_part : List (List ℕ) → Result (List ℕ × List (List ℕ)) BadKind
 next_of_part words =
     then_good (next_of words) (λ next. if bytes_eq next.0 (codes "+") then Err WrongCount else Ok next)
+
+-- the words behind a `+`, which has to be the next word
+unfoldable pub behind_plus : List (List ℕ) → Result (List (List ℕ)) BadKind
+behind_plus words =
+    then_good (next_of words) (λ next. if bytes_eq next.0 (codes "+") then Ok next.1 else Err WrongCount)

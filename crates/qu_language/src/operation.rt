@@ -1,13 +1,14 @@
-ghost use Rattle.std.specs.Prelude.{◌≡◌, ◌≤◌, ◌<◌, IfOk, IsTrue};
+ghost use Rattle.std.specs.Prelude.{◌≡◌, ◌<◌, ◌+◌, ◌-◌, ℕ, IfOk, IsTrue};
 ghost use Rattle.qu_base.specs.declared.limits.TheConstants.{OBJECT_IDS};
-ghost use Rattle.qu_objects.specs.Parts.{is_sized_method, is_sized_ask};
 ghost use Rattle.qu_language.specs.Meaning.{IsReadAs};
-ghost use Rattle.qu_language.specs.Operation.{ask_verb_rule, verb_rule, part_rule, is_sized_part, op_by, op_rule};
+ghost use Rattle.qu_language.specs.Operation.{ask_verb_rule, verb_rule, verb_behind, object_behind, part_rule, part_behind, joined_part, more_parts, op_rule};
+ghost use Rattle.qu_language.specs.Parts.{is_of_query, are_below, is_sized_part, AreBuilt};
 
+use super::parts::Parts;
 use super::rules::{read_content, read_name, read_number, read_object};
 use super::{BadKind, LineFail, Words};
-use qu_base::{List, NoMemory, ObjectId};
-use qu_objects::{Act, Ask, Method, Op, Query};
+use qu_base::ObjectId;
+use qu_objects::{Ask, MOST_PARTS, Method, Op};
 use std::alloc::Global;
 
 /// What a part of an operation does or asks, by its first word.
@@ -25,6 +26,18 @@ pub enum Verb {
     All,
 }
 
+impl Verb {
+    /// Whether it is one of a query.
+    pub fn is_of_query(self) -> bool
+        ensures { result ≡ is_of_query self }
+    {
+        match self {
+            Verb::Read | Verb::Cat | Verb::Find | Verb::All => true,
+            Verb::Add | Verb::Take | Verb::Put | Verb::Append | Verb::Link | Verb::Unlink => false,
+        }
+    }
+}
+
 /// What a part of an operation does to its object, or asks of it.
 #[derive(Debug, Drop)]
 pub enum Part {
@@ -32,16 +45,95 @@ pub enum Part {
     Asks(Ask),
 }
 
-/// An operation on one of so many objects: a verb, the object, and what the verb needs.
+/// An operation on some of so many objects: its parts, with a `+` between each two.
 #[tactic(auto, unfolding(crate::specs::Operation::op_rule))]
 pub fn read_operation(alloc: Global, objects: usize, words: &mut Words<'_>) -> Result<Op, LineFail>
     ensures { IsReadAs (λ op. op) result (op_rule objects words.old) }
 {
-    let verb = read_verb(words.next_of_part()?)?;
-    let object = read_object(objects, words.next_of_part()?)?;
-    let part = read_part(alloc, verb, words)?;
+    let first = read_part_behind(alloc, objects, Parts::none(alloc), words)?;
+    Ok(read_more_parts(alloc, objects, first, words)?.operation())
+}
+
+/// The parts behind the first one, while words are left.
+#[tactic(auto, using(crate::proofs::PartFacts::more_facts))]
+fn read_more_parts(
+    alloc: Global,
+    objects: usize,
+    first: Parts,
+    words: &mut Words<'_>,
+) -> Result<Parts, LineFail>
+    requires { AreBuilt 1 1 first }
+    ensures value { IsReadAs (λ parts. parts) result (more_parts (MOST_PARTS - 1) objects first words.old) }
+    ensures built { IfOk result (λ parts. AreBuilt 1 MOST_PARTS parts) }
+{
+    let mut parts = first;
+    for _ in 1..MOST_PARTS {
+        parts = read_joined_part(alloc, objects, parts, words)?;
+    }
     words.end()?;
-    Ok(operation(alloc, object, part)?)
+    Ok(parts)
+}
+
+/// These parts, and the one behind a `+`, if words are left.
+#[tactic(auto, unfolding(crate::specs::Operation::joined_part), using(crate::proofs::PartFacts::wider_facts))]
+fn read_joined_part(
+    alloc: Global,
+    objects: usize,
+    parts: Parts,
+    words: &mut Words<'_>,
+) -> Result<Parts, LineFail>
+    ensures value { IsReadAs (λ parts. (parts, words.new)) result (joined_part objects parts words.old) }
+    ensures built { (most : ℕ) → AreBuilt 1 most parts → IfOk result (λ parts. AreBuilt 1 (most + 1) parts) }
+{
+    if words.is_empty() {
+        return Ok(parts);
+    }
+    words.join()?;
+    read_part_behind(alloc, objects, parts, words)
+}
+
+/// These parts, and one behind them: a verb, the object, and what the verb needs.
+#[tactic(auto, unfolding(crate::specs::Operation::part_behind))]
+fn read_part_behind(
+    alloc: Global,
+    objects: usize,
+    parts: Parts,
+    words: &mut Words<'_>,
+) -> Result<Parts, LineFail>
+    ensures value { IsReadAs (λ parts. (parts, words.new)) result (part_behind objects parts words.old) }
+    ensures built { (least most : ℕ) → AreBuilt least most parts
+        → IfOk result (λ parts. AreBuilt (least + 1) (most + 1) parts) }
+{
+    let verb = read_verb_behind(&parts, words.next_of_part()?)?;
+    let object = read_object_behind(&parts, objects, words.next_of_part()?)?;
+    let part = read_part(alloc, verb, words)?;
+    Ok(parts.with(object, part)?)
+}
+
+/// A verb behind these parts.
+fn read_verb_behind(parts: &Parts, word: &[u8]) -> Result<Verb, BadKind>
+    ensures { result ≡ verb_behind parts.now word.now }
+{
+    let verb = read_verb(word)?;
+    if parts.may_precede(verb) {
+        Ok(verb)
+    } else {
+        Err(BadKind::OutOfOrder)
+    }
+}
+
+/// One of so many objects, behind these parts.
+fn read_object_behind(parts: &Parts, objects: usize, word: &[u8]) -> Result<ObjectId, BadKind>
+    ensures value { result ≡ object_behind parts.now objects word.now }
+    ensures known { IfOk result (λ object. object.0 < OBJECT_IDS) }
+    ensures above { IfOk result (λ object. IsTrue (are_below object parts.now)) }
+{
+    let object = read_object(objects, word)?;
+    if parts.are_below(object) {
+        Ok(object)
+    } else {
+        Err(BadKind::OutOfOrder)
+    }
 }
 
 /// A verb, of an update or of a query.
@@ -105,44 +197,4 @@ fn read_part(alloc: Global, verb: Verb, words: &mut Words<'_>) -> Result<Part, L
         Verb::Find => Part::Asks(Ask::Find(read_name(alloc, words.next_of_part()?)?)),
         Verb::All => Part::Asks(Ask::All),
     })
-}
-
-/// The operation of this part alone.
-fn operation(alloc: Global, object: ObjectId, part: Part) -> Result<Op, NoMemory>
-    requires known { object.0 < OBJECT_IDS }
-    requires sized { IsTrue (is_sized_part part) }
-    ensures { IfOk result (λ op. op ≡ op_by object part) }
-{
-    match part {
-        Part::Does(method) => update(alloc, object, method),
-        Part::Asks(ask) => query(alloc, object, ask),
-    }
-}
-
-/// The update of an object by a method.
-fn update(alloc: Global, object: ObjectId, method: Method) -> Result<Op, NoMemory>
-    requires known { object.0 < OBJECT_IDS }
-    requires sized { IsTrue (is_sized_method method) }
-    ensures { IfOk result (λ op. op ≡ op_by object (Part.Does method)) }
-{
-    let mut parts = List::new(alloc);
-    parts.push((object, method))?;
-    match Act::new(parts) {
-        Ok(act) => Ok(Op::Act(act)),
-        Err(_) => unreachable!(),
-    }
-}
-
-/// The query of an object that asks this.
-fn query(alloc: Global, object: ObjectId, ask: Ask) -> Result<Op, NoMemory>
-    requires known { object.0 < OBJECT_IDS }
-    requires sized { IsTrue (is_sized_ask ask) }
-    ensures { IfOk result (λ op. op ≡ op_by object (Part.Asks ask)) }
-{
-    let mut parts = List::new(alloc);
-    parts.push((object, ask))?;
-    match Query::new(parts) {
-        Ok(query) => Ok(Op::Query(query)),
-        Err(_) => unreachable!(),
-    }
 }

@@ -1,6 +1,6 @@
 ghost use Rattle.std.specs.Prelude.{◌≡◌, length, map, IfOk};
 ghost use Rattle.std.specs.Result.{result_map_both};
-ghost use Rattle.qu_language.specs.Words.{is_nil, has_bytes, words_in, is_ascii_word, next_of, end_of, next_of_part};
+ghost use Rattle.qu_language.specs.Words.{is_nil, has_bytes, words_in, is_ascii_word, next_of, end_of, next_of_part, behind_plus};
 
 use super::BadKind;
 use qu_notation::cut_words as cut_pieces;
@@ -100,6 +100,18 @@ impl<'a> Words<'a> {
             return Err(BadKind::WrongCount);
         }
         Ok(word)
+    }
+
+    /// Takes the `+` between two parts of an operation.
+    #[tactic(auto, unfolding(crate::specs::Words::behind_plus))]
+    pub fn join(&mut self) -> Result<(), BadKind>
+        ensures { result_map_both (λ done. self.new) (λ kind. kind) result ≡ behind_plus self.old }
+    {
+        let word = self.next()?;
+        if word != b"+".as_slice() {
+            return Err(BadKind::WrongCount);
+        }
+        Ok(())
     }
 
     /// That no word is left.

@@ -24,7 +24,7 @@ use Rattle.qu_laws.proofs.Origins.{accepted_from, world_ends}
 use Rattle.qu_laws.proofs.ShownWhenAccepted.{start, still_accepted}
 use Rattle.qu_claims.specs.Accepted.{accepts, is_accepted}
 use Rattle.qu_claims.specs.Chained.{last_world}
-use Rattle.qu_laws.proofs.Laws.{one_place, copies}
+use Rattle.qu_laws.proofs.Laws.{OneOfStamp, one_place, copies}
 use Rattle.std.proofs.lemmas.Option.{none-some}
 use Rattle.qu_stamp.specs.Candidate.{opening}
 use Rattle.qu_runs.proofs.Small.{same_candidate}
@@ -62,6 +62,18 @@ module _ (trace : Trace) (is_run : IsRun trace) (have : ArePlain trace) where
                 ((stamps_name trace is_run have no_collision).group object candidate other came other_came same)
           ]
         ]
+
+    -- also where one replica accepted it by a time of the run
+    one_by : OneOfStamp trace is_run have
+    unfolding setting
+    one_by time within object place candidate other accepted again same =
+        one_of_stamp object candidate other (in_the_end candidate accepted) (in_the_end other again) same
+      where
+        in_the_end : (it : Candidate) → (setting trace).accepted time object place it ≡ true
+            → is_accepted (last_world trace) object it ≡ true
+        in_the_end it accepted =
+            somewhere_accepted object it (last_world trace).replicas place
+            (still_accepted trace is_run have time (length trace.entries) within object place it accepted)
 
     -- ---- the candidates of a group
 
@@ -160,5 +172,5 @@ module _ (trace : Trace) (is_run : IsRun trace) (have : ArePlain trace) where
           (subst (λ (it : ℕ). IsNew (setting trace) time other it companion)
           (sym (one_place trace is_run have time object other place elsewhere candidate companion new again)) again)
           apart;
-      copies = copies trace is_run have;
+      copies = copies trace is_run have one_by;
     }

@@ -1,13 +1,12 @@
 -- A run of the world meets the laws of the theory of what is decided.
-use Rattle.std.proofs.Common.{[], ◌∷◌, ◌≡◌, List, Some, ap, arith, false, inl, inr, length, not, refl, subst, suc, sym, true, zero, ℕ, ◌⊎◌, ◌<◌, ◌≤◌, ◌∙◌, ◌+◌, Option, None, add-one}
+use Rattle.std.proofs.Common.{◌≡◌, List, Some, ap, arith, false, inl, inr, length, not, refl, subst, suc, sym, true, zero, ℕ, ◌⊎◌, ◌<◌, ◌≤◌, ◌∙◌, ◌+◌, Option, None, add-one}
 use Rattle.qu_accepts.proofs.Accepting.{StepAt, step_at, Acceptance}
-use Rattle.qu_claims.specs.Grounds.{IsGround, Accepts, IsDelivered, AddsTo, Performs, IsFound, Mends, MendsOn, Reasons, IsMade, IsRemedy, made_stamp}
+use Rattle.qu_claims.specs.Grounds.{shown_base, copied_on, AreCopied, IsGround, Accepts, IsDelivered, AddsTo, Performs, IsFound, Mends, MendsOn, Reasons, IsMade, IsRemedy, made_stamp}
 use Rattle.qu_runs.specs.Plain.{ArePlain}
 use Rattle.qu_base.specs.Bounds.{AreThresholds, quorum, replicas, repair}
 use Rattle.qu_stamp.specs.declared.candidate.Candidate.{Candidate}
 use Rattle.qu_chain.proofs.Counting.{test_at-here}
 use Rattle.qu_chain.specs.Laws.{Given, IsLinked, Laws}
-use Rattle.qu_stamp.proofs.Groups.{alone_has_no_member}
 use Rattle.qu_claims.specs.Setting.{IsNew, acceptors, IsAttested}
 use Rattle.qu_world.specs.Run.{IsRun}
 use Rattle.qu_base.specs.declared.party.ObjectId.{ObjectId}
@@ -19,14 +18,16 @@ use Rattle.qu_runs.proofs.Worlds.Objects.{accepted_known}
 use Rattle.qu_claims.specs.Accepted.{accepts}
 use Rattle.qu_runs.proofs.Worlds.OpeningReplicas.{all_begin, all_replicas}
 use Rattle.qu_base.proofs.ThresholdFacts.{are_thresholds}
-use Rattle.qu_rows.specs.Rows.{asked_of, Asked, objects_of}
+use Rattle.qu_rows.specs.Rows.{asked_of, Asked, fresh_stamp, fresh_group, objects_of}
+use Rattle.qu_stamp.specs.Group.{listed_time}
+use Rattle.qu_grounds.proofs.Together.{listed_named, member_is, IsMemberAt, member_at, group_lists, fresh_listed, member_added}
 use Rattle.std.proofs.lemmas.Bool.{cases_Bool, cases_lt, false≢true, lt-ltb, ltb-true, not-true}
 use Rattle.std.specs.Prelude.{is_some, slice_get}
 use Rattle.qu_history.specs.Sets.{entries_of, order_of, latest_of, candidates_of}
 use Rattle.qu_stamp.specs.Stamp.{is_below, same_stamp}
 use Rattle.qu_stamp.proofs.Order.{is_below-not_chain, is_below-other, equal_by_same_stamp, is_before_by_stamp}
 use Rattle.qu_history.specs.declared.sets.SetOf.{SetOf}
-use Rattle.qu_stamp.specs.Candidate.{is_before}
+use Rattle.qu_stamp.specs.Candidate.{is_before, member as member_on}
 use Rattle.qu_history.specs.History.{holds, ObjectHistory}
 use Rattle.qu_claims.specs.RunSetting.{setting}
 use Rattle.std.proofs.lemmas.Option.{slice_get_cases, none-some}
@@ -51,18 +52,42 @@ use Rattle.qu_accepts.proofs.Handling.{mid_candidates, one_handled}
 use Rattle.qu_accepts.proofs.Together.{added_now}
 
 module _ (trace : Trace) (is_run : IsRun trace) (have : ArePlain trace) where
+  -- what a replica accepts is new to it
+  pub new_accepted : (time : ℕ) → time < length trace.entries → (place : ℕ) (old new : ReplicaState)
+      (object : ObjectId) (delivered : IsDelivered trace time place old new object)
+      → IsNew (setting trace) time object place ((delivered.accepts).candidates object)
+  unfolding setting
+  new_accepted time within place old new object delivered =
+      let handles : Handles trace time place old new = delivered.handles in
+      added_now trace time place within old new handles.is_old
+      (ap (λ (count : ℕ). slice_get (world_after trace count).replicas place) (sym (add-one time)) ∙ handles.is_new)
+      (record {
+        mid = handles.mid;
+        same = mid_candidates trace time old handles.mid handles.learns;
+        received = handles.carried;
+        accepts = delivered.accepts;
+      }) object delivered.adds
+
   -- ---- the base of what is accepted
+
+  -- what a replica accepted on an object, it accepted with one candidate under each stamp
+  abbrev pub OneOfStamp : Type 0
+  OneOfStamp = (time : ℕ) → time ≤ length trace.entries → (object : ObjectId) (place : ℕ) (candidate other : Candidate)
+      → (setting trace).accepted time object place candidate ≡ true
+      → (setting trace).accepted time object place other ≡ true → candidate.stamp ≡ other.stamp → candidate ≡ other
 
   -- a candidate that is attested, or rests on such a one
   abbrev IsBased : ℕ → ObjectId → ℕ → Candidate → Type 0
   IsBased time object place candidate =
       IsAttested (setting trace) time object candidate ⊎ IsLinked (setting trace) time object place candidate
 
-  -- a copy, which stands alone, and so does what it copies
-  record IsCopyOf (time : ℕ) (object : ObjectId) (place : ℕ) (copy : Candidate) : Type 0 where
+  -- a copy of the object candidate of these sets, made together with those on the objects of its group
+  record IsCopyOf (bounds : ℕ) (asked : Asked) (time : ℕ) (object : ObjectId) (place : ℕ) (copy : Candidate)
+      : Type 0 where
     link : IsLinked (setting trace) time object place copy
-    single : (link.base).group ≡ []
-    alone : copy.group ≡ []
+    base_is : link.base ≡ shown_base bounds asked object
+    made : IsMade bounds asked (copied_on bounds asked object) object copy
+    together : AreCopied bounds asked object
 
   module _ (time : ℕ) (within : time < length trace.entries) (object : ObjectId) (place : ℕ) (candidate : Candidate)
       (accepted : Acceptance trace time object place candidate) where
@@ -129,13 +154,13 @@ module _ (trace : Trace) (is_run : IsRun trace) (have : ArePlain trace) where
     copy_linked : (asked : Asked) (latest copy : Candidate) → asked.sets ≡ upon.sets
         → quorum old_bounds ≤ length (entries_of object asked.sets)
         → is_below (latest_of (entries_of object asked.sets)) (own_latest mid object) ≡ false
-        → (asked.act ≡ None) → IsMade old_bounds asked (object ∷ []) object copy
-        → (object_base old_bounds (entries_of object asked.sets)).group ≡ []
+        → (asked.act ≡ None) → IsMade old_bounds asked (copied_on old_bounds asked object) object copy
+        → AreCopied old_bounds asked object
         → latest.stamp.barrier ≡ true → latest.stamp ≡ latest_of (entries_of object asked.sets)
         → quorum old_bounds ≤ order_of latest (entries_of object asked.sets)
-        → IsCopyOf time object place copy
+        → IsCopyOf old_bounds asked time object place copy
     unfolding setting
-    copy_linked asked latest copy sets enough current no_act made single barrier is_latest full =
+    copy_linked asked latest copy sets enough current no_act made together barrier is_latest full =
         let formed : AreWellFormed trace.setup.bounds entries =
         formed_then trace is_run have time within object place candidate accepted in
         let some : quorum trace.setup.bounds ≤ length entries =
@@ -181,10 +206,10 @@ module _ (trace : Trace) (is_run : IsRun trace) (have : ArePlain trace) where
                 not_below_greatest base other
                 (greatest.above other (record { kind = plain_kind other plain; order = so_many }));
           };
-          single = ap (λ (it : List SetOf). (object_base trace.setup.bounds (entries_of object it)).group) (sym sets)
-              ∙ ap (λ (bounds : ℕ). (object_base bounds (entries_of object asked.sets)).group) (sym same_bounds)
-              ∙ single;
-          alone = made.group;
+          base_is = ap (λ (it : List SetOf). object_base trace.setup.bounds (entries_of object it)) (sym sets)
+              ∙ ap (λ (bounds : ℕ). object_base bounds (entries_of object asked.sets)) (sym same_bounds);
+          made = made;
+          together = together;
         }
       where
         plain_kind : (it : Candidate) → not it.stamp.barrier ≡ true → it.stamp.barrier ≡ false
@@ -211,10 +236,10 @@ module _ (trace : Trace) (is_run : IsRun trace) (have : ArePlain trace) where
         → asked.act ≡ None → Mends mid accepted.new asked target group upon.candidates → MendsOn target group object
         → (setting trace).plain (upon.candidates object) ≡ true
         → IsAttested (setting trace) time object (upon.candidates object)
-        ⊎ IsCopyOf time object place (upon.candidates object)
+        ⊎ IsCopyOf old_bounds asked time object place (upon.candidates object)
     unfolding setting
     mended_based asked target group sets no_act mends mended plain =
-        by_remedy (upon.candidates object) mends.version (mends.remedy object mended) plain
+        by_remedy (upon.candidates object) (mends.versions object) (mends.remedy object mended) plain
         (mends.enough object mended) (mends.current object mended)
       where
         no_barrier : (it : Candidate) → it.stamp.barrier ≡ true → not it.stamp.barrier ≡ true → ⊥
@@ -223,15 +248,16 @@ module _ (trace : Trace) (is_run : IsRun trace) (have : ArePlain trace) where
         by_remedy : (it : Candidate) (version : Option ObjState) → IsRemedy mid asked object it version
             → not it.stamp.barrier ≡ true → quorum old_bounds ≤ length (entries_of object asked.sets)
             → is_below (latest_of (entries_of object asked.sets)) (own_latest mid object) ≡ false
-            → IsAttested (setting trace) time object it ⊎ IsCopyOf time object place it
+            → IsAttested (setting trace) time object it ⊎ IsCopyOf old_bounds asked time object place it
         by_remedy it version (IsRemedy.inline_barrier barrier found) plain_it enough current =
             absurd (no_barrier it barrier plain_it)
         by_remedy it version (IsRemedy.inline_method state kind found stored) plain_it enough current =
             inl (found_attested asked object it sets refl found)
         by_remedy it version (IsRemedy.barrier barrier made) plain_it enough current =
             absurd (no_barrier it barrier plain_it)
-        by_remedy it version (IsRemedy.copy latest state kind made single barrier is_latest full stored) plain_it enough
-            current = inr (copy_linked asked latest it sets enough current no_act made single barrier is_latest full)
+        by_remedy it version (IsRemedy.copy latest state kind made together barrier is_latest full stored) plain_it
+            enough current =
+            inr (copy_linked asked latest it sets enough current no_act made together barrier is_latest full)
 
     -- whatever the request asks for
     based_by : (client : ClientId) (number : ℕ) (asks : Body) (group : List (ObjectId × ℕ))
@@ -256,38 +282,105 @@ module _ (trace : Trace) (is_run : IsRun trace) (have : ArePlain trace) where
 
     -- ---- what a copy copies
 
-    copied_by : (client : ClientId) (number : ℕ) (asks : Body) (group : List (ObjectId × ℕ))
+    -- what is added on another object together with a copy is a copy too
+    module _ (asked : Asked) (copy : IsCopyOf old_bounds asked time object place (upon.candidates object))
+        (plain : (upon.candidates object).stamp.barrier ≡ false) where
+      abbrev fresh_time : ObjectId → ℕ
+      fresh_time other = (fresh_stamp asked other).time
+
+      -- its group lists the objects of what it copies
+      copy_lists : (other : ObjectId) (stamp : Stamp) → member_on (upon.candidates object) other ≡ Some stamp
+          → Names (shown_base old_bounds asked object).group other
+          × (stamp ≡ record (upon.candidates object).stamp { time = fresh_time other })
+      copy_lists other stamp is_member =
+          let it : IsMemberAt (upon.candidates object) other stamp =
+          member_at (upon.candidates object) other stamp is_member in
+          let listed : Names (shown_base old_bounds asked object).group other × (fresh_time other ≡ it.time) =
+          fresh_listed asked (shown_base old_bounds asked object).group other it.time
+          (ap (listed_time other) (sym (copy.made).group) ∙ it.listed) in (
+            listed.0,
+            sym it.is
+                ∙ ap (λ (at : ℕ). record (upon.candidates object).stamp { time = at }) (sym listed.1),
+          )
+
+      copied_prior : (other : ObjectId) (candidate : Candidate) (version : Option ObjState)
+          → IsRemedy mid asked other candidate version
+          → candidate.stamp ≡ record (upon.candidates object).stamp { time = fresh_time other }
+          → candidate.prior ≡ (shown_base old_bounds asked other).stamp
+      copied_prior other candidate version (IsRemedy.inline_barrier barrier found) is =
+          absurd (false≢true (sym plain ∙ sym (ap (λ (it : Stamp). it.barrier) is) ∙ barrier))
+      copied_prior other candidate version (IsRemedy.inline_method state kind found stored) is =
+          absurd (no_later _ (sym (ap (λ (it : Stamp). it.time) found.latest) ∙ ap (λ (it : Stamp). it.time) is))
+        where
+          no_later : (at : ℕ) → at ≡ at + 1 → ⊥
+          no_later at same = omega (arith, same)
+      copied_prior other candidate version (IsRemedy.barrier barrier made) is =
+          absurd (false≢true (sym plain ∙ sym (ap (λ (it : Stamp). it.barrier) is) ∙ barrier))
+      copied_prior other candidate version
+          (IsRemedy.copy latest state kind made together barrier is_latest full stored) is = made.prior
+
+    copied_by : OneOfStamp → (client : ClientId) (number : ℕ) (asks : Body) (group : List (ObjectId × ℕ))
         → Reasons mid accepted.new (asked_of client number upon.sets asks) asks group upon.candidates
+        → ((other : ObjectId) → AddsTo asks group other
+        → (setting trace).accepted (suc time) other place (upon.candidates other) ≡ true)
         → AddsTo asks group object → (setting trace).plain (upon.candidates object) ≡ true
         → (setting trace).is_act (upon.candidates object) ≡ false
         → IsAttested (setting trace) time object (upon.candidates object)
         ⊎ IsCopied (setting trace) time object place (upon.candidates object)
     unfolding setting
-    copied_by client number (body.Act parts) group reasons names plain no_act =
+    copied_by one client number (body.Act parts) group reasons now names plain no_act =
         absurd (false≢true (sym no_act
         ∙ ap (λ (it : Stamp). is_some it.act) (reasons.grounds object names).stamp))
-    copied_by client number (body.Ask parts) group reasons never plain no_act = absurd never
-    copied_by client number (body.Mend target) group reasons mended plain no_act =
-        elim (mended_based (asked_of client number upon.sets (body.Mend target)) target group refl refl reasons mended
-        plain) [
+    copied_by one client number (body.Ask parts) group reasons now never plain no_act = absurd never
+    copied_by one client number (body.Mend target) group reasons now mended plain no_act =
+        let asked : Asked = asked_of client number upon.sets (body.Mend target) in
+        elim (mended_based asked target group refl refl reasons mended plain) [
           | inl attested ↦ inl attested
           | inr copy ↦ inr (record {
             base = copy.link.base;
             prior = copy.link.prior;
             attested = copy.link.attested;
-            joined = λ other companion apart is_member also. absurd (none-some companion.stamp
-                (sym (alone_has_no_member (upon.candidates object) other copy.alone) ∙ is_member));
-            covered = λ other stamp apart is_member none. absurd (none-some stamp
-                (sym (alone_has_no_member copy.link.base other copy.single) ∙ is_member));
+            joined = λ other companion apart is_member also.
+                let listed = copy_lists asked copy (not-true (upon.candidates object).stamp.barrier plain) other companion.stamp is_member in
+                let adds : MendsOn target group other × ((upon.candidates other).stamp ≡ companion.stamp) =
+                member_added mid accepted.new asked group upon.candidates (body.Mend target) reasons object mended other
+                companion.stamp is_member in
+                let same : upon.candidates other ≡ companion =
+                one (suc time) (omega (arith, within)) other place (upon.candidates other) companion (now other adds.0) also
+                adds.1 in
+                ap (λ (base : Candidate). member_on base other) copy.base_is
+                ∙ (copy.together).together other listed.0
+                ∙ ap (λ (prior : Stamp). Some prior)
+                (sym (copied_prior asked copy (not-true (upon.candidates object).stamp.barrier plain) other (upon.candidates other) (reasons.versions other)
+                (reasons.remedy other adds.0) (adds.1 ∙ listed.1))
+                ∙ ap (λ (it : Candidate). it.prior) same);
+            covered = λ other stamp apart is_member none.
+                let base : Candidate = shown_base old_bounds asked object in
+                let it : IsMemberAt base other stamp =
+                member_at base other stamp (ap (λ (own : Candidate). member_on own other) (sym copy.base_is)
+                ∙ is_member) in
+                let named : Names base.group other = listed_named base.group other it.time it.listed in
+                absurd (none-some _ (sym none
+                ∙ member_is (upon.candidates object) (upon.candidates object).stamp
+                (fresh_group asked (copied_on old_bounds asked object)) other (fresh_stamp asked other).time refl
+                (copy.made).group (group_lists asked base.group (copy.together).whole other named)));
           })
         ]
 
-    pub is_copied : (setting trace).plain candidate ≡ true → (setting trace).is_act candidate ≡ false
+    -- what the request adds is accepted now
+    now_accepted : (other : ObjectId) → AddsTo upon.asks upon.group other
+        → (setting trace).accepted (suc time) other place (upon.candidates other) ≡ true
+    unfolding setting
+    now_accepted other adds =
+        (new_accepted time within place accepted.old accepted.new other
+        (record { handles = (accepted.delivered).handles; accepts = upon; adds = adds })).after
+
+    pub is_copied : OneOfStamp → (setting trace).plain candidate ≡ true → (setting trace).is_act candidate ≡ false
         → IsAttested (setting trace) time object candidate ⊎ IsCopied (setting trace) time object place candidate
-    is_copied plain no_act =
+    is_copied one plain no_act =
         subst (λ (it : Candidate). IsAttested (setting trace) time object it
         ⊎ IsCopied (setting trace) time object place it) accepted.candidate_is
-        (copied_by upon.client upon.number upon.asks upon.group upon.reasons (accepted.delivered).adds
+        (copied_by one upon.client upon.number upon.asks upon.group upon.reasons now_accepted (accepted.delivered).adds
         (ap (setting trace).plain accepted.candidate_is ∙ plain)
         (ap (setting trace).is_act accepted.candidate_is ∙ no_act))
 
@@ -302,32 +395,16 @@ module _ (trace : Trace) (is_run : IsRun trace) (have : ArePlain trace) where
         | inr link ↦ inr link
       ]
 
-  pub copies : (time : ℕ) (object : ObjectId) (place : ℕ) (candidate : Candidate)
+  pub copies : OneOfStamp → (time : ℕ) (object : ObjectId) (place : ℕ) (candidate : Candidate)
       → (setting trace).plain candidate ≡ true → (setting trace).is_act candidate ≡ false
       → IsNew (setting trace) time object place candidate
       → IsAttested (setting trace) time object candidate ⊎ IsCopied (setting trace) time object place candidate
   unfolding setting
-  copies time object place candidate plain no_act new =
+  copies one time object place candidate plain no_act new =
       is_copied time new.step object place candidate
-      (acceptance_of trace is_run have time object place candidate new) plain no_act
+      (acceptance_of trace is_run have time object place candidate new) one plain no_act
 
   -- ---- who accepts at a step
-
-  -- what a replica accepts is new to it
-  pub new_accepted : (time : ℕ) → time < length trace.entries → (place : ℕ) (old new : ReplicaState)
-      (object : ObjectId) (delivered : IsDelivered trace time place old new object)
-      → IsNew (setting trace) time object place ((delivered.accepts).candidates object)
-  unfolding setting
-  new_accepted time within place old new object delivered =
-      let handles : Handles trace time place old new = delivered.handles in
-      added_now trace time place within old new handles.is_old
-      (ap (λ (count : ℕ). slice_get (world_after trace count).replicas place) (sym (add-one time)) ∙ handles.is_new)
-      (record {
-        mid = handles.mid;
-        same = mid_candidates trace time old handles.mid handles.learns;
-        received = handles.carried;
-        accepts = delivered.accepts;
-      }) object delivered.adds
 
   moves_here : (time : ℕ) → time < length trace.entries → (object : ObjectId) (place : ℕ) → place < (setting trace).n
       → Given (setting trace) time object

@@ -1,7 +1,8 @@
 -- Where no two texts have one digest, a stamp names the histories upon which its candidate was accepted, and the
 -- objects on which it was made.
-use Rattle.std.proofs.Common.{◌≡◌, ℕ, ◌+◌, List, [], ◌∷◌, map, length, Some, refl, sym, ap, subst, ◌∙◌, arith}
+use Rattle.std.proofs.Common.{◌≡◌, ℕ, ◌+◌, Bool, true, false, List, [], ◌∷◌, map, length, Some, refl, sym, ap, subst, ◌∙◌, arith}
 use Rattle.std.specs.Prelude.{Contains}
+use Rattle.std.proofs.lemmas.Bool.{false≢true}
 use Rattle.std.proofs.lemmas.Option.{none-some, same_Some}
 use Rattle.qu_base.specs.declared.party.ClientId.{ClientId}
 use Rattle.qu_base.specs.declared.party.ObjectId.{ObjectId}
@@ -21,12 +22,13 @@ use Rattle.qu_frames.specs.declared.frame.Frame.{Frame}
 use Rattle.qu_frames.specs.Formats.{frame_form}
 use Rattle.qu_fitting.proofs.FitCulled.{culled-fits}
 use Rattle.qu_fitting.proofs.FitRequests.{request-fits}
+use Rattle.qu_rows.specs.State.{ReplicaState}
 use Rattle.qu_trace.specs.declared.trace.Trace.{Trace}
 use Rattle.qu_world.specs.Run.{IsRun}
 use Rattle.qu_claims.specs.Handled.{Request, handled_by, IsHandled}
 use Rattle.qu_claims.specs.Digested.{Text, texts_of, digested, NoCollision}
-use Rattle.qu_rows.specs.Rows.{Asked, asked_of, act_asked, shown_of, fresh_stamp, objects_of}
-use Rattle.qu_claims.specs.Grounds.{Accepts, fresh_group, made_on}
+use Rattle.qu_rows.specs.Rows.{Asked, asked_of, act_asked, shown_of, fresh_stamp, fresh_group, objects_of}
+use Rattle.qu_claims.specs.Grounds.{Accepts, Reasons, made_on}
 use Rattle.qu_claims.specs.Named.{shown_to, StampsNameHistories}
 use Rattle.qu_claims.specs.Times.{world_after}
 use Rattle.qu_claims.specs.Origins.{Origin}
@@ -78,26 +80,54 @@ abbrev WasHandled : Trace → ClientId → ℕ → Body → Type 0
 WasHandled trace client number asks =
     (parts : List (ObjectId × Method)) → asks ≡ body.Act parts → IsHandled trace client number parts
 
--- one act is on the same objects, and what is no act has no group
-same_objects : (trace : Trace) → ActsAreOne trace → (asked : Asked) (client other : ClientId) (number turn : ℕ)
-    (asks besides : Body) → WasHandled trace client number asks → WasHandled trace other turn besides
-    → act_asked client number asks ≡ act_asked other turn besides
-    → fresh_group asked (made_on asks) ≡ fresh_group asked (made_on besides)
-same_objects trace one_act asked client other number turn (body.Act parts) (body.Act others) one two same =
-    ap (λ (it : List (ObjectId × Method)). fresh_group asked (objects_of it))
-    (one_act client other number turn parts others (one parts refl) (two others refl) (same_Some _ _ same)).2
-same_objects trace one_act asked client other number turn (body.Act parts) (body.Ask asks) one two same =
-    absurd (none-some _ (sym same))
-same_objects trace one_act asked client other number turn (body.Act parts) (body.Mend target) one two same =
-    absurd (none-some _ (sym same))
-same_objects trace one_act asked client other number turn (body.Ask asks) (body.Act parts) one two same =
-    absurd (none-some _ same)
-same_objects trace one_act asked client other number turn (body.Ask asks) (body.Ask besides) one two same = refl
-same_objects trace one_act asked client other number turn (body.Ask asks) (body.Mend target) one two same = refl
-same_objects trace one_act asked client other number turn (body.Mend target) (body.Act parts) one two same =
-    absurd (none-some _ same)
-same_objects trace one_act asked client other number turn (body.Mend target) (body.Ask asks) one two same = refl
-same_objects trace one_act asked client other number turn (body.Mend target) (body.Mend besides) one two same = refl
+-- nothing is accepted upon a query
+abbrev DoesAccept : Body → Type 0
+DoesAccept (body.Act parts) = Unit {0}
+DoesAccept (body.Ask parts) = ⊥
+DoesAccept (body.Mend target) = Unit {0}
+
+does_accept : (old new : ReplicaState) (asked : Asked) (asks : Body) (group : List (ObjectId × ℕ))
+    (candidates : ObjectId → Candidate) → Reasons old new asked asks group candidates → DoesAccept asks
+does_accept old new asked (body.Act parts) group candidates reasons = tt
+does_accept old new asked (body.Ask parts) group candidates never = never
+does_accept old new asked (body.Mend target) group candidates reasons = tt
+
+module _ (bounds : ℕ) (asked other : Asked)
+    (alike : (object : ObjectId) → shown_of asked object ≡ shown_of other object) (object : ObjectId) where
+  -- a barrier is set alone, and what is copied together the histories tell
+  same_copied : (target besides : ObjectId) (first second : Bool) → first ≡ second
+      → fresh_group other (made_on bounds asked (body.Mend target) object first)
+      ≡ fresh_group other (made_on bounds other (body.Mend besides) object second)
+  same_copied target besides true true same = refl
+  same_copied target besides true false same = absurd (false≢true (sym same))
+  same_copied target besides false true same = absurd (false≢true same)
+  same_copied target besides false false same =
+      ap (λ (entries : List ObjectHistory). fresh_group other (objects_of (object_base bounds entries).group))
+      (alike object)
+
+  -- one act is on the same objects
+  same_objects : (trace : Trace) → ActsAreOne trace → (client who : ClientId) (number turn : ℕ)
+      (asks besides : Body) → DoesAccept asks → DoesAccept besides → WasHandled trace client number asks
+      → WasHandled trace who turn besides → act_asked client number asks ≡ act_asked who turn besides
+      → (first second : Bool) → first ≡ second
+      → fresh_group other (made_on bounds asked asks object first)
+      ≡ fresh_group other (made_on bounds other besides object second)
+  same_objects trace one_act client who number turn (body.Act parts) (body.Act others) does also one two same first
+      second kind =
+      ap (λ (it : List (ObjectId × Method)). fresh_group other (objects_of it))
+      (one_act client who number turn parts others (one parts refl) (two others refl) (same_Some _ _ same)).2
+  same_objects trace one_act client who number turn (body.Act parts) (body.Ask asks) does never one two same first
+      second kind = absurd never
+  same_objects trace one_act client who number turn (body.Act parts) (body.Mend target) does also one two same first
+      second kind = absurd (none-some _ (sym same))
+  same_objects trace one_act client who number turn (body.Ask asks) besides never also one two same first second kind =
+      absurd never
+  same_objects trace one_act client who number turn (body.Mend target) (body.Act parts) does also one two same first
+      second kind = absurd (none-some _ same)
+  same_objects trace one_act client who number turn (body.Mend target) (body.Ask asks) does never one two same first
+      second kind = absurd never
+  same_objects trace one_act client who number turn (body.Mend target) (body.Mend besides) does also one two same first
+      second kind = same_copied target besides first second kind
 
 -- ---- histories
 
@@ -182,7 +212,7 @@ module _ (trace : Trace) (is_run : IsRun trace) (plain : ArePlain trace) where
       (same_histories no_collision object first second one other same object)
       ∙ sym (other.made).prior
 
-  -- and with the act the objects on which it was made
+  -- and with them, or with the act, the objects on which it was made
   was_handled : (object : ObjectId) (candidate : Candidate) (it : Origin trace (length trace.entries) object candidate)
       (parts : List (ObjectId × Method)) → ((it.delivered).accepts).asks ≡ body.Act parts
       → IsHandled trace ((it.delivered).accepts).client ((it.delivered).accepts).number parts
@@ -197,15 +227,21 @@ module _ (trace : Trace) (is_run : IsRun trace) (plain : ArePlain trace) where
       (one.delivered).accepts in
       let there : Accepts ((other.delivered).handles).mid other.new ((other.delivered).handles).carried =
       (other.delivered).accepts in
-      let asked : Asked = asked_of there.client there.number there.sets there.asks in
+      let asked : Asked = asked_of here.client here.number here.sets here.asks in
+      let besides : Asked = asked_of there.client there.number there.sets there.asks in
+      let alike : (of : ObjectId) → shown_of asked of ≡ shown_of besides of =
+      same_histories no_collision object first second one other same in
       (one.made).group
-      ∙ same_times (asked_of here.client here.number here.sets here.asks) asked
-      (same_histories no_collision object first second one other same) (made_on here.asks)
-      ∙ same_objects trace (acts_are_one trace is_run plain no_collision) asked here.client there.client here.number
-      there.number here.asks there.asks
+      ∙ same_times asked besides alike
+      (made_on trace.setup.bounds asked here.asks object first.stamp.barrier)
+      ∙ same_objects trace.setup.bounds asked besides alike object trace (acts_are_one trace is_run plain no_collision)
+      here.client there.client here.number there.number here.asks there.asks
+      (does_accept _ _ asked here.asks here.group here.candidates here.reasons)
+      (does_accept _ _ besides there.asks there.group there.candidates there.reasons)
       (was_handled object first one) (was_handled object second other)
       (sym (ap (λ (it : Stamp). it.act) (one.made).stamp) ∙ ap (λ (it : Stamp). it.act) same
       ∙ ap (λ (it : Stamp). it.act) (other.made).stamp)
+      first.stamp.barrier second.stamp.barrier (ap (λ (it : Stamp). it.barrier) same)
       ∙ sym (other.made).group
 
   pub stamps_name : NoCollision trace → StampsNameHistories trace

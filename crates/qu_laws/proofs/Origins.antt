@@ -25,7 +25,7 @@ use Rattle.qu_runs.proofs.Worlds.OpeningReplicas.{opening_holds}
 use Rattle.std.specs.List.{list_any}
 use Rattle.qu_claims.specs.Chained.{last_world}
 use Rattle.qu_claims.specs.Accepted.{accepts, is_accepted}
-use Rattle.qu_claims.specs.Grounds.{IsDelivered, Accepts, IsFound, IsMade, made_on}
+use Rattle.qu_claims.specs.Grounds.{IsDelivered, Accepts, IsFound, IsMadeFrom}
 use Rattle.qu_history.specs.Sets.{order_of, entries_of}
 use Rattle.qu_claims.specs.RunSetting.{setting}
 use Rattle.qu_chain.proofs.Ancestry.{Acceptor, acceptor}
@@ -148,7 +148,7 @@ module _ (trace : Trace) (is_run : IsRun trace) (have : ArePlain trace) where
               delivered = delivered;
               is_candidate = refl;
               made = subst (λ (bounds : ℕ).
-                  IsMade bounds (asked_of one.client one.number one.sets one.asks) (made_on one.asks) object
+                  IsMadeFrom bounds (asked_of one.client one.number one.sets one.asks) one.asks object
                   (one.candidates object))
                   (mid_bounds trace count place old new handles) made;
             })

@@ -1,5 +1,6 @@
--- A run as lines: one for each event, with what it ends, and one for each letter that it sends.
-use Rattle.std.specs.Prelude.{ℕ, ◌+◌, List, [], ◌∷◌, ◌++◌, length, map, take, Option, None, Some, codes}
+-- A run as lines: one for each event, with what it ends, and below it one for each operation that takes effect at it
+-- and one for each letter that it sends.
+use Rattle.std.specs.Prelude.{ℕ, ◌+◌, ◌==◌, List, [], ◌∷◌, ◌++◌, length, map, filter, take, Option, None, Some, codes}
 use Rattle.std.specs.List.{flat_map, enumerate_from}
 use Rattle.std.specs.Fmt.{decimal}
 use Rattle.qu_base.specs.declared.party.ClientId.{ClientId}
@@ -11,8 +12,10 @@ use Rattle.qu_frames.specs.declared.frame.Frame.{Frame}
 use Rattle.qu_frames.specs.declared.frame.Letter.{Letter}
 use Rattle.qu_frames.specs.Decoding.{decoded}
 use Rattle.qu_frames.specs.Signing.{sender}
+use Rattle.qu_machine.specs.declared.record.Point.{Point}
 use Rattle.qu_trace.specs.declared.event.Event.{Event}
 use Rattle.qu_trace.specs.declared.event.Event.TheVariants.{Invoke, Deliver, Tick, Inject}
+use Rattle.qu_trace.specs.declared.premises.Premises.{Premises}
 use Rattle.qu_trace.specs.declared.trace.Entry.{Entry}
 use Rattle.qu_trace.specs.declared.trace.Setup.{Setup}
 use Rattle.qu_trace.specs.declared.trace.Trace.{Trace}
@@ -20,6 +23,8 @@ use Rattle.qu_trace.specs.Letters.{letters_of, numbered, offered_by}
 use Rattle.qu_trace.specs.Operation.{begun_by}
 use Rattle.qu_world.specs.State.{WorldState}
 use Rattle.qu_print.specs.Lines.{lines_text}
+use Rattle.qu_print.specs.Report.{told_order}
+use Rattle.qu_print.specs.Timeline.{point_line}
 use Rattle.qu_print.specs.Words.{name_text, op_text, answer_text}
 use Rattle.qu_listing.specs.Names.{party_text, count_text}
 use Rattle.qu_listing.specs.Frames.{frame_text, carried_text}
@@ -99,14 +104,24 @@ event_line setup earlier entry =
 
 -- ---- the listing
 
+-- where an operation takes effect at an event, as the report tells it
+abbrev pub point_below : Point → List ℕ
+point_below point = codes "  " ++ point_line point
+
+abbrev pub points_below : ℕ → List Point → List (List ℕ)
+points_below event order = map point_below (filter (λ point. point.event == event) order)
+
 -- letters are numbered on, from event to event
-unfoldable pub entry_lines : Setup → List Entry → Entry → List (List ℕ)
-entry_lines setup earlier entry =
-    event_line setup earlier entry ∷ letter_lines (length (letters_of earlier) + 1) entry.letters
+unfoldable pub entry_lines : Setup → List Point → List Entry → Entry → List (List ℕ)
+entry_lines setup order earlier entry =
+    event_line setup earlier entry ∷ points_below (length earlier + 1) order
+    ++ letter_lines (length (letters_of earlier) + 1) entry.letters
 
-unfoldable pub listing : Setup → List Entry → List (List ℕ)
-listing setup entries = flat_map (λ place. entry_lines setup (take place.0 entries) place.1) (enumerate_from 0 entries)
+unfoldable pub listing : Setup → List Point → List Entry → List (List ℕ)
+listing setup order entries =
+    flat_map (λ place. entry_lines setup order (take place.0 entries) place.1) (enumerate_from 0 entries)
 
--- the events of the run by their numbers, each with the letters that it sent
-unfoldable pub events_text : Trace → List ℕ
-events_text trace = lines_text (listing trace.setup trace.entries)
+-- the events of the run by their numbers, each with the points of an order that it has, and with the letters that it
+-- sent; no point is told where the premises of the order do not hold
+unfoldable pub events_text : Trace → Premises → List Point → List ℕ
+events_text trace premises order = lines_text (listing trace.setup (told_order premises order) trace.entries)

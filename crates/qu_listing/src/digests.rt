@@ -29,8 +29,8 @@ pub fn digests_text(alloc: Global, trace: &Trace) -> Result<List<u8>, NoMemory>
     Ok(List::from(text.into_bytes()))
 }
 
-/// The same lines with all bytes of the letter in the place of their digest, by two lower-case
-/// hexadecimal digits each, or `-` where it has none.
+/// A line for each letter as above, with all its bytes in the place of their digest, by two lower-case hexadecimal
+/// digits each, or `-` where it has none.
 #[tactic(auto, unfolding(crate::specs::Digests::letter_bytes_text))]
 pub fn bytes_text(alloc: Global, trace: &Trace) -> Result<List<u8>, NoMemory>
     ensures { IfOk result (λ text. text ≡ letter_bytes_text trace.now) }

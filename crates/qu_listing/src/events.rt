@@ -9,27 +9,41 @@ use super::fetching::{put_noted, put_waits};
 use super::letters::put_letters;
 use super::names::put_party;
 use super::offer::Offer;
+use super::points::put_points;
 use super::receivers::Receivers;
 use super::rounds::put_rounds;
 use super::so_far::SoFar;
 use super::stood::{Stood, stood_before};
 use qu_base::{ClientId, List, NoMemory, Party};
+use qu_machine::Point;
 use qu_objects::Outcome;
-use qu_print::{put_answer, put_op};
-use qu_trace::{Entry, Event, Trace};
+use qu_print::{put_answer, put_op, told_order};
+use qu_trace::{Entry, Event, Premises, Trace};
 use qu_world::World;
 use std::alloc::Global;
 
-/// A line for each event of a run, with the operation that it ends, and below it a line for each letter
-/// that it sends. A text of which its receiver takes no frame is told as ignored.
+/// A line for each event of a run, with the operation that it ends, and below it a line for each operation that takes
+/// effect at it, by this order, and for each letter that it sends. A text of which its receiver takes no frame is told
+/// as ignored. No point is told where the premises of the order do not hold.
 #[tactic(auto, unfolding(crate::specs::Events::events_text))]
-pub fn events_text(alloc: Global, trace: &Trace) -> Result<List<u8>, NoMemory>
+pub fn events_text(
+    alloc: Global,
+    trace: &Trace,
+    premises: &Premises,
+    order: &[Point],
+) -> Result<List<u8>, NoMemory>
     requires { IsSetup trace.now.setup }
-    ensures { IfOk result (λ text. text ≡ events_text trace.now) }
+    ensures { IfOk result (λ text. text ≡ events_text trace.now premises.now order.now) }
 {
     let receivers = Receivers::new(&trace.setup);
     let mut text = String::new(alloc);
-    put_events(alloc, &mut text, &receivers, trace.entries.as_slice())?;
+    put_events(
+        alloc,
+        &mut text,
+        &receivers,
+        told_order(premises, order),
+        trace.entries.as_slice(),
+    )?;
     Ok(List::from(text.into_bytes()))
 }
 
@@ -39,32 +53,42 @@ fn put_events(
     alloc: Global,
     text: &mut String,
     receivers: &Receivers,
+    order: &[Point],
     entries: &[Entry],
 ) -> Result<(), NoMemory>
     requires { IsSetup receivers.now }
     ensures { OnOk result (string_bytes text.new
-        ≡ string_bytes text.old ++ lines_text (listing receivers.now entries.now)) }
+        ≡ string_bytes text.old ++ lines_text (listing receivers.now order.now entries.now)) }
 {
     let mut known = SoFar::new(alloc, receivers)?;
     for (index, entry) in entries.iter().enumerate() {
-        put_event(alloc, text, receivers, &mut known, &entries[..index], entry)?;
+        put_event(
+            alloc,
+            text,
+            receivers,
+            order,
+            &mut known,
+            &entries[..index],
+            entry,
+        )?;
     }
     Ok(())
 }
 
 /// Writes the lines of the event behind the earlier ones, and then knows of it too.
-#[tactic(auto, unfolding(qu_print::specs::Lines::lines_text, crate::specs::Events::entry_lines, crate::specs::Events::event_line))]
+#[tactic(auto, unfolding(crate::specs::Events::event_line))]
 fn put_event(
     alloc: Global,
     text: &mut String,
     receivers: &Receivers,
+    order: &[Point],
     known: &mut SoFar,
     earlier: &[Entry],
     entry: &Entry,
 ) -> Result<(), NoMemory>
     requires { IsSoFar receivers.now earlier.now known.old }
     ensures text { OnOk result (string_bytes text.new
-        ≡ string_bytes text.old ++ lines_text (entry_lines receivers.now earlier.now entry.now)) }
+        ≡ string_bytes text.old ++ lines_text (entry_lines receivers.now order.now earlier.now entry.now)) }
     ensures known { OnOk result (IsSoFar receivers.now (earlier.now ++ entry.now ∷ []) known.new) }
 {
     let offered = known.offered(earlier, &entry.event);
@@ -72,6 +96,7 @@ fn put_event(
     put_front(alloc, text, receivers, known, earlier, entry, &offered)?;
     known.note(alloc, earlier, entry)?;
     put_back(text, &known.world, entry, &stood)?;
+    put_points(text, earlier.len() as u64 + 1, order)?;
     put_letters(
         alloc,
         text,

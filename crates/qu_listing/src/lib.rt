@@ -1,4 +1,4 @@
-//! The letters of a run as lines of text: by event, with their digests, or with their bytes.
+//! The letters of a run as lines of text: by event, with the points of an order, or with their digests or bytes.
 #![tactic(auto)]
 
 mod deliveries;
@@ -10,6 +10,7 @@ mod frames;
 mod letters;
 mod names;
 mod offer;
+mod points;
 mod receivers;
 mod rounds;
 mod so_far;

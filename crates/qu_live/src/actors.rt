@@ -20,7 +20,7 @@ pub struct Actors<N: RunName> {
     pub clients: Vec<Kept<Client, N>>,
 }
 
-/// The same behind locks, which the workers share.
+/// The actors of a run behind their locks, which the workers share.
 #[derive(Drop)]
 pub struct Locks<N: RunName> {
     pub replicas: Vec<ReplicaLock<N>>,

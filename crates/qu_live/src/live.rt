@@ -33,7 +33,7 @@ pub fn run_live<R: Threads + Wait + Sync, G: Gate>(
     run_as::<Brand, R, G>(rt, alloc, setup, calls, gate)
 }
 
-/// The same as the run that the type names.
+/// Runs the calls on threads, as the run that the type names.
 fn run_as<N: RunName + Send + Sync, R: Threads + Wait + Sync, G: Gate>(
     rt: &R,
     alloc: Global,

@@ -1,5 +1,5 @@
 -- Each answer of the table has its cause.
-use Rattle.std.proofs.Common.{◌≡◌, Bool, true, false, not, ◌&&◌, ◌||◌, leb, ltb, cond, List, [], ◌∷◌, Option, Some, None, length, IsSome, IfOk, Result, Ok, Err, refl, sym, ap, subst, ◌∙◌, ◌⊎◌, inl, inr, arith}
+use Rattle.std.proofs.Common.{◌≡◌, Bool, true, false, leb, ltb, cond, List, [], ◌∷◌, Option, Some, None, length, IsSome, IfOk, Result, Ok, Err, refl, sym, ap, subst, ◌∙◌, ◌⊎◌, inl, inr, arith}
 use Rattle.std.specs.Prelude.{find, is_some, is_none, option_map}
 use Rattle.std.specs.List.{AllByRecursion, list_all, list_any, cons_option}
 use Rattle.std.proofs.lemmas.Bool.{false≢true, and_parts, or_cases, not-true, not-false, or_parts, leb-true, leb-false, ltb-true, ltb-false}
@@ -20,7 +20,7 @@ use Rattle.qu_mends.specs.declared.remedy.Remedy.TheVariants.{Nothing, Shown, Fr
 use Rattle.qu_mends.specs.declared.mend.Mend.{Mend}
 use Rattle.qu_mends.specs.declared.mending.Mending.{Mending}
 use Rattle.qu_mends.specs.declared.mending.Mending.TheVariants.{Mends, Holds, Refuses, Waits}
-use Rattle.qu_mends.specs.Remedy.{MendPart, fresh_repair, addition_by, addition_of, part_addition, missing_key, wanted_by, stored_by}
+use Rattle.qu_mends.specs.Remedy.{MendPart, alike, fresh_repair, addition_by, addition_of, part_addition, missing_key, wanted_by, stored_by}
 use Rattle.qu_mends.specs.Table.{first_given, has_no_room}
 use Rattle.qu_mends.specs.Mending.{unplanned_by, is_held_in, is_held_part, is_passed, is_late, is_spent, missing_in, accepted_parts, unmended_by, mend_row_plan, mend_row_held, mend_row_current, mend_row_sound, mend_row_version, mend_row_time, mend_row_full, mend_row_mended, decide_mend}
 use Rattle.qu_mends.specs.Causes.{MakesCandidate, AddsVersion, IsBehind, IsSpent, ArePartsOf, RefusesFor, IsPartAdded, ArePartsAdded, IsPartHeld, HasCause}
@@ -131,15 +131,31 @@ module _ (mend : Mend) where
       ltb-false latest.time LAST_TIME
       (not_added (ltb latest.time LAST_TIME) (fresh_repair mend latest barrier prior) none)
 
+  -- what is alike is planned and to be mended too
+  planned_alike : (remedy : Remedy) (base : Candidate) → unplanned_by (alike remedy base) ≡ None
+  planned_alike Nothing base = refl
+  planned_alike (Shown candidate) base = refl
+  planned_alike (Fresh barrier prior) base = refl
+  planned_alike (Unshown member) base = refl
+  planned_alike (Unplanned other) base = refl
+
+  unsound_alike : (remedy : Remedy) (base : Candidate) → unmended_by mend.target (alike remedy base) ≡ None
+  unsound_alike Nothing base = refl
+  unsound_alike (Shown candidate) base = refl
+  unsound_alike (Fresh barrier prior) base = refl
+  unsound_alike (Unshown member) base = refl
+  unsound_alike (Unplanned other) base = refl
+
   abbrev IsLike : MendPart → Type 0
-  IsLike part = (part.remedy ≡ mend.remedy) ⊎ ((shown : Candidate) × (part.remedy ≡ Shown shown))
+  IsLike part = (part.remedy ≡ mend.remedy) ⊎ ((base : Candidate) × (part.remedy ≡ alike mend.remedy base))
 
   part_spent : (part : MendPart) → IsLike part → unplanned_by mend.remedy ≡ None
       → unmended_by mend.target mend.remedy ≡ None → is_spent mend part ≡ true → IsSpent part.latest part.remedy
   part_spent part (inl same) planned unsound none =
       spent part.latest part.remedy (ap unplanned_by same ∙ planned) (ap (unmended_by mend.target) same ∙ unsound) none
-  part_spent part (inr shown) planned unsound none =
-      spent part.latest part.remedy (ap unplanned_by shown.1) (ap (unmended_by mend.target) shown.1) none
+  part_spent part (inr like) planned unsound none =
+      spent part.latest part.remedy (ap unplanned_by like.1 ∙ planned_alike mend.remedy like.0)
+      (ap (unmended_by mend.target) like.1 ∙ unsound_alike mend.remedy like.0) none
 
 unplanned_remedy : (remedy : Remedy) (object : ObjectId) → unplanned_by remedy ≡ Some object
     → remedy ≡ Unplanned object

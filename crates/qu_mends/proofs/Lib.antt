@@ -1,3 +1,4 @@
+pub mod MadeGroups
 pub mod Parts
 pub mod Members
 pub mod Decided

@@ -1,8 +1,8 @@
 -- The objects that are mended with the target: they differ, and the sets show them.
-use Rattle.std.proofs.Common.{◌≡◌, ◌⊎◌, ℕ, ◌+◌, ◌<◌, ◌≤◌, Bool, true, false, not, cond, List, [], ◌∷◌, map, Option, None, Some, inl, inr, refl, sym, ap, subst, ◌∙◌, arith, length}
+use Rattle.std.proofs.Common.{◌≡◌, ℕ, ◌+◌, ◌<◌, ◌≤◌, Bool, true, false, not, cond, List, [], ◌∷◌, map, Option, None, Some, refl, sym, ap, subst, arith, length}
 use Rattle.std.specs.Prelude.{find, nat_le, option_map}
 use Rattle.std.specs.List.{AllByRecursion, list_all}
-use Rattle.std.proofs.lemmas.Bool.{false≢true, and_parts, leb-true}
+use Rattle.std.proofs.lemmas.Bool.{and_parts, leb-true}
 use Rattle.std.proofs.lemmas.Option.{none-some}
 use Rattle.qu_base.specs.declared.party.ObjectId.{ObjectId}
 use Rattle.qu_stamp.specs.declared.candidate.Candidate.{Candidate}
@@ -17,10 +17,12 @@ use Rattle.qu_class.specs.declared.class.Class.TheVariants.{Method, InlineMethod
 use Rattle.qu_class.specs.Class.{is_latest, is_in_sets, listed_stamp, agrees, first_absent, all_agree, class_of, with_members, class_in}
 use Rattle.qu_class.specs.Repairable.{object_base}
 use Rattle.qu_class.specs.Rows.{AllShown}
-use Rattle.qu_class.proofs.GroupRule.{inline_by}
+use Rattle.qu_class.specs.Plan.{first_apart}
+use Rattle.qu_class.proofs.GroupRule.{inline_by, copy_in_sets}
+use Rattle.qu_class.proofs.Plans.{IsJoint, none_apart}
 use Rattle.qu_mends.specs.declared.remedy.Remedy.{Remedy}
-use Rattle.qu_mends.specs.declared.remedy.Remedy.TheVariants.{Shown}
-use Rattle.qu_mends.specs.Remedy.{whole_group, group_of, member_remedy, remedies_by}
+use Rattle.qu_mends.specs.declared.remedy.Remedy.TheVariants.{Nothing, Shown, Fresh, Unshown, Unplanned}
+use Rattle.qu_mends.specs.Remedy.{whole_group, copied_group, copy_by, remedy_by, remedy_of, base_on, group_of, mended_group, member_remedy, remedies_by}
 
 -- ---- they differ
 
@@ -34,9 +36,9 @@ DoDiffer (mended ∷ later) = AreOthers mended.0 later × DoDiffer later
 at_least : (least : ℕ) (member : ObjectId × ℕ) → is_member_from least member ≡ true → least ≤ (member.0).0
 at_least least member is = leb-true least (member.0).0 (and_parts (nat_le least (member.0).0) _ is).0
 
-module _ (bounds : ℕ) (sets : List SetOf) where
+module _ (bounds : ℕ) (sets : List SetOf) (remedy : Remedy) where
   members_are_others : (least : ℕ) (group : List (ObjectId × ℕ)) → are_members_from least group ≡ true
-      → (object : ObjectId) → object.0 < least → AreOthers object (map (member_remedy bounds sets) group)
+      → (object : ObjectId) → object.0 < least → AreOthers object (map (member_remedy bounds sets remedy) group)
   unfolding are_members_from
   members_are_others least [] rise object below = tt
   members_are_others least (member ∷ later) rise object below =
@@ -48,7 +50,7 @@ module _ (bounds : ℕ) (sets : List SetOf) where
       )
 
   members_differ : (least : ℕ) (group : List (ObjectId × ℕ)) → are_members_from least group ≡ true
-      → DoDiffer (map (member_remedy bounds sets) group)
+      → DoDiffer (map (member_remedy bounds sets remedy) group)
   unfolding are_members_from
   members_differ least [] rise = tt
   members_differ least (member ∷ later) rise =
@@ -57,11 +59,11 @@ module _ (bounds : ℕ) (sets : List SetOf) where
         members_differ ((member.0).0 + 1) later both.1,
       )
 
-  pub remedies_differ : (target : ObjectId) (remedy : Remedy) (group : List (ObjectId × ℕ)) → is_group group ≡ true
+  pub remedies_differ : (target : ObjectId) (group : List (ObjectId × ℕ)) → is_group group ≡ true
       → DoDiffer (remedies_by bounds sets target remedy group)
   unfolding remedies_by is_group
-  remedies_differ target remedy [] is = (tt, tt)
-  remedies_differ target remedy (member ∷ later) is =
+  remedies_differ target [] is = (tt, tt)
+  remedies_differ target (member ∷ later) is =
       members_differ 0 (member ∷ later)
       (and_parts (is_group_size (length (member ∷ later))) (are_members_from 0 (member ∷ later)) is).1
 
@@ -74,13 +76,21 @@ none_whole : is_group [] ≡ true
 unfolding is_group are_members_from
 none_whole = refl
 
-pub group_is_whole : (class : Class) → is_group (group_of class) ≡ true
-group_is_whole (Method candidate) = none_whole
-group_is_whole (InlineMethod candidate) = whole_by candidate.group (is_group candidate.group) refl
-group_is_whole Copy = none_whole
-group_is_whole (InlineBarrier candidate) = none_whole
-group_is_whole (Barrier prior) = none_whole
-group_is_whole (Needs member) = none_whole
+copied_whole : (group : List (ObjectId × ℕ)) (remedy : Remedy) → is_group (copied_group group remedy) ≡ true
+copied_whole group Nothing = none_whole
+copied_whole group (Shown candidate) = none_whole
+copied_whole group (Fresh barrier prior) = whole_by group (is_group group) refl
+copied_whole group (Unshown member) = none_whole
+copied_whole group (Unplanned other) = none_whole
+
+pub group_is_whole : (base : Candidate) (class : Class) (remedy : Remedy)
+    → is_group (group_of base class remedy) ≡ true
+group_is_whole base (Method candidate) remedy = none_whole
+group_is_whole base (InlineMethod candidate) remedy = whole_by candidate.group (is_group candidate.group) refl
+group_is_whole base Copy remedy = copied_whole base.group remedy
+group_is_whole base (InlineBarrier candidate) remedy = none_whole
+group_is_whole base (Barrier prior) remedy = none_whole
+group_is_whole base (Needs member) remedy = none_whole
 
 -- ---- the sets show them
 
@@ -125,16 +135,44 @@ module _ (bounds : ℕ) (sets : List SetOf) where
   shown_whole group true none = all_in_sets sets group none
   shown_whole group false none = tt
 
+  -- what is copied is of class COPY, which the sets show
+  copies_shown : (base : Candidate) (members : List (ObjectId × ℕ)) → AllByRecursion (IsJoint bounds sets base) members
+      → AllShown sets members
+  copies_shown base [] all = tt
+  copies_shown base (member ∷ later) all =
+      (copy_in_sets bounds sets member.0 (all.0).copy, copies_shown base later all.1)
+
+  copied_shown : (object : ObjectId) (apart : Option ObjectId)
+      → first_apart bounds sets (base_on bounds sets object) ≡ apart
+      → AllShown sets (copied_group (base_on bounds sets object).group
+      (copy_by (base_on bounds sets object).stamp apart))
+  copied_shown object (Some other) apart = tt
+  copied_shown object None none =
+      by (is_group (base_on bounds sets object).group)
+    where
+      by : (test : Bool) → AllShown sets (cond test (base_on bounds sets object).group [])
+      by true =
+          copies_shown (base_on bounds sets object) (base_on bounds sets object).group
+          (none_apart bounds sets (base_on bounds sets object) none)
+      by false = tt
+
   -- the members that are mended are shown
-  pub group_shown : (object : ObjectId) (class : Class) → class_in bounds sets object ≡ class
-      → AllShown sets (group_of class)
-  group_shown object (Method candidate) is = tt
-  group_shown object (InlineMethod candidate) is =
+  group_shown_by : (object : ObjectId) (class : Class) → class_in bounds sets object ≡ class
+      → AllShown sets (group_of (base_on bounds sets object) class
+      (remedy_by (first_apart bounds sets (base_on bounds sets object)) (base_on bounds sets object) class))
+  unfolding remedy_by
+  group_shown_by object (Method candidate) is = tt
+  group_shown_by object (InlineMethod candidate) is =
       shown_whole candidate.group (is_group candidate.group) (inline_joined object candidate is).0
-  group_shown object Copy is = tt
-  group_shown object (InlineBarrier candidate) is = tt
-  group_shown object (Barrier prior) is = tt
-  group_shown object (Needs member) is = tt
+  group_shown_by object Copy is =
+      copied_shown object (first_apart bounds sets (base_on bounds sets object)) refl
+  group_shown_by object (InlineBarrier candidate) is = tt
+  group_shown_by object (Barrier prior) is = tt
+  group_shown_by object (Needs member) is = tt
+
+  pub group_shown : (object : ObjectId) → AllShown sets (mended_group bounds sets object)
+  unfolding remedy_of
+  group_shown object = group_shown_by object (class_in bounds sets object) refl
 
 -- ---- what agrees
 
@@ -176,17 +214,43 @@ module _ (bounds : ℕ) (sets : List SetOf) where
   whole_is group true member later is = is
   whole_is group false member later is = absurd (no_member member later is)
 
-  -- the members of the group that is mended agree
-  pub group_agrees : (object : ObjectId) (class : Class) (member : ObjectId × ℕ) (later : List (ObjectId × ℕ))
-      → class_in bounds sets object ≡ class → group_of class ≡ member ∷ later
+  -- the members of the group that is added as it is agree
+  pub group_agrees : (object : ObjectId) (candidate : Candidate) (member : ObjectId × ℕ) (later : List (ObjectId × ℕ))
+      → class_in bounds sets object ≡ InlineMethod candidate → whole_group candidate.group ≡ member ∷ later
       → AllByRecursion (λ it. IsShownWith bounds sets (member ∷ later) it.0) (member ∷ later)
-  group_agrees object (Method candidate) member later is group = absurd (no_member member later group)
-  group_agrees object (InlineMethod candidate) member later is group =
+  group_agrees object candidate member later is group =
       let whole : candidate.group ≡ member ∷ later =
       whole_is candidate.group (is_group candidate.group) member later group in
       subst (λ (it : List (ObjectId × ℕ)). AllByRecursion (λ one. IsShownWith bounds sets it one.0) it) whole
       (all_shown_with bounds sets candidate candidate.group (inline_joined bounds sets object candidate is).1)
-  group_agrees object Copy member later is group = absurd (no_member member later group)
-  group_agrees object (InlineBarrier candidate) member later is group = absurd (no_member member later group)
-  group_agrees object (Barrier prior) member later is group = absurd (no_member member later group)
-  group_agrees object (Needs absent) member later is group = absurd (no_member member later group)
+
+-- ---- what is made on a group
+
+abbrev pub IsPlain : Remedy → Type 0
+IsPlain (Fresh barrier prior) = barrier ≡ false
+IsPlain _ = Unit {0}
+
+-- barriers are made alone
+module _ (base : Candidate) (member : ObjectId × ℕ) (later : List (ObjectId × ℕ)) where
+  copied_plain : (apart : Option ObjectId)
+      → copied_group base.group (copy_by base.stamp apart) ≡ member ∷ later → IsPlain (copy_by base.stamp apart)
+  copied_plain None group = refl
+  copied_plain (Some other) group = tt
+
+  group_plain_by : (apart : Option ObjectId) (class : Class)
+      → group_of base class (remedy_by apart base class) ≡ member ∷ later → IsPlain (remedy_by apart base class)
+  unfolding remedy_by
+  group_plain_by apart (Method candidate) group = tt
+  group_plain_by apart (InlineMethod candidate) group = tt
+  group_plain_by apart Copy group = copied_plain apart group
+  group_plain_by apart (InlineBarrier candidate) group = tt
+  group_plain_by apart (Barrier prior) group = absurd (no_member member later group)
+  group_plain_by apart (Needs other) group = tt
+
+pub group_plain : (bounds : ℕ) (sets : List SetOf) (target : ObjectId) (member : ObjectId × ℕ)
+    (later : List (ObjectId × ℕ)) → mended_group bounds sets target ≡ member ∷ later
+    → IsPlain (remedy_of bounds sets target)
+unfolding remedy_of
+group_plain bounds sets target member later group =
+    group_plain_by (base_on bounds sets target) member later
+    (first_apart bounds sets (base_on bounds sets target)) (class_in bounds sets target) group

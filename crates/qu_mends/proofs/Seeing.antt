@@ -7,7 +7,6 @@ use Rattle.qu_history.specs.declared.sets.SetOf.{SetOf}
 use Rattle.qu_history.specs.Sets.{entries_of}
 use Rattle.qu_class.specs.declared.class.Class.{Class}
 use Rattle.qu_class.specs.declared.class.Class.TheVariants.{Method, InlineMethod, Copy, InlineBarrier, Barrier, Needs}
-use Rattle.qu_class.specs.Plan.{lowest_other}
 use Rattle.qu_class.specs.Rows.{IsGreatestOfKind, IsClassIn}
 use Rattle.qu_class.proofs.ClassRows.{HasMethod}
 use Rattle.qu_mends.specs.Remedy.{copy_by, remedy_by, IsGrounded}
@@ -25,17 +24,17 @@ module _ (bounds : ℕ) (sets : List SetOf) (object : ObjectId) where
   copied base (Some other) greatest = tt
 
   -- what is told by a class is ground for its remedy
-  pub grounded : (class : Class) (base : Candidate) → HasMethod bounds entries class
+  pub grounded : (apart : Option ObjectId) (class : Class) (base : Candidate) → HasMethod bounds entries class
       → IsClassIn bounds sets object class → (class ≡ Copy → IsGreatestOfKind bounds entries false base)
-      → IsGrounded bounds entries (remedy_by object base class)
+      → IsGrounded bounds entries (remedy_by apart base class)
   unfolding remedy_by
-  grounded (Method candidate) base has tells greatest =
+  grounded apart (Method candidate) base has tells greatest =
       subst (λ (found : Option Candidate). IsSome found) (sym ((has candidate).0 refl)) (some_is candidate)
-  grounded (InlineMethod candidate) base has tells greatest = (((tells.0).0).greatest).repairable.order
-  grounded Copy base has tells greatest = copied base (lowest_other object base.group) (greatest refl)
-  grounded (InlineBarrier candidate) base has tells greatest = ((tells.0).greatest).repairable.order
-  grounded (Barrier prior) base has tells greatest = elim tells [
+  grounded apart (InlineMethod candidate) base has tells greatest = (((tells.0).0).greatest).repairable.order
+  grounded apart Copy base has tells greatest = copied base apart (greatest refl)
+  grounded apart (InlineBarrier candidate) base has tells greatest = ((tells.0).greatest).repairable.order
+  grounded apart (Barrier prior) base has tells greatest = elim tells [
     | inl own ↦ (own.0, own.1, own.2)
     | inr passed ↦ (passed.0, ((passed.1).0).greatest, passed.2)
   ]
-  grounded (Needs member) base has tells greatest = tt
+  grounded apart (Needs member) base has tells greatest = tt

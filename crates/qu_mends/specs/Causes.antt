@@ -1,12 +1,15 @@
 -- Why each answer to a request to mend an object comes.
-use Rattle.std.specs.Prelude.{◌≡◌, true, false, ◌<◌, ◌≤◌, ◌⊎◌, List, [], ◌∷◌, length, find, Option, None, Some, is_some, IsSome}
+use Rattle.std.specs.Prelude.{ℕ, ◌≡◌, true, false, ◌<◌, ◌≤◌, ◌⊎◌, List, [], ◌∷◌, length, find, Option, None, Some, is_some, IsSome}
 use Rattle.std.specs.List.{AllByRecursion, list_any}
+use Rattle.qu_base.specs.declared.party.ObjectId.{ObjectId}
 use Rattle.qu_stamp.specs.declared.stamp.Stamp.{Stamp}
 use Rattle.qu_stamp.specs.declared.limits.TheConstants.{LAST_TIME}
 use Rattle.qu_stamp.specs.declared.candidate.Candidate.{Candidate}
 use Rattle.qu_stamp.specs.Stamp.{is_below}
 use Rattle.qu_history.specs.declared.limits.TheConstants.{HISTORY_LIMIT}
 use Rattle.qu_history.specs.History.{latest, holds}
+use Rattle.qu_history.specs.declared.sets.SetOf.{SetOf}
+use Rattle.qu_history.specs.Sets.{entries_of, latest_of}
 use Rattle.qu_objects.specs.declared.state.ObjState.{ObjState}
 use Rattle.qu_frames.specs.declared.verdict.Refusal.{Refusal}
 use Rattle.qu_frames.specs.declared.verdict.Refusal.TheVariants.{HistoryFull, Thin, Needs, Stale, NotCurrent, NotMethod, Spent, TimeSpent, UnknownObject, Sound}
@@ -16,9 +19,13 @@ use Rattle.qu_mends.specs.declared.mend.Mend.{Mend}
 use Rattle.qu_mends.specs.declared.mending.Mending.{Mending}
 use Rattle.qu_mends.specs.declared.mending.Mending.TheVariants.{Mends, Holds, Refuses, Waits}
 use Rattle.qu_mends.specs.declared.accepted.Accepted.{Accepted}
-use Rattle.qu_mends.specs.Remedy.{MendPart, fresh_repair, missing_key}
+use Rattle.qu_mends.specs.Remedy.{MendPart, alike, fresh_repair, missing_key}
 use Rattle.qu_mends.specs.Table.{has_no_room}
 use Rattle.qu_mends.specs.Mending.{is_late, is_spent, missing_in}
+
+-- a candidate may be made on the object, above all that the sets show of it
+abbrev pub HasTime : List SetOf → ObjectId × ℕ → Type 0
+HasTime sets member = (latest_of (entries_of member.0 sets)).time < LAST_TIME
 
 -- what may be added at the end of the own candidates, above which the sets show the latest
 pub record MayBeAdded (part : MendPart) (candidate : Candidate) : Type 0 where
@@ -53,10 +60,11 @@ IsSpent latest (Shown shown) = LAST_TIME < shown.stamp.time
 IsSpent latest (Fresh barrier prior) = LAST_TIME ≤ latest.time
 IsSpent latest _ = ⊥
 
--- the objects are mended as the target is, or with what is shown of them
+-- the objects are mended as the target is
 abbrev pub ArePartsOf : Mend → List MendPart → Type 0
 ArePartsOf mend parts =
-    AllByRecursion (λ part. (part.remedy ≡ mend.remedy) ⊎ ((shown : Candidate) × (part.remedy ≡ Shown shown))) parts
+    AllByRecursion (λ part. (part.remedy ≡ mend.remedy) ⊎ ((base : Candidate) × (part.remedy ≡ alike mend.remedy base)))
+    parts
 
 -- no other refusal answers a request to mend an object that is known, with a quorum of histories. The first object is
 -- named to which it applies.

@@ -1,5 +1,6 @@
 -- What is added to the history of an object that is mended, by its class (Query/Update: repair, inline repair).
 use Rattle.std.specs.Prelude.{[], ◌∷◌, ℕ, Bool, true, false, ◌+◌, ◌≡◌, ◌≤◌, nat_le, nat_lt, if◌then◌else◌, List, map, Option, None, Some, is_none, option_map, IsSome}
+use Rattle.std.specs.List.{list_all}
 use Rattle.qu_base.specs.declared.party.ClientId.{ClientId}
 use Rattle.qu_base.specs.declared.party.Digest.{Digest}
 use Rattle.qu_base.specs.declared.party.ObjectId.{ObjectId}
@@ -15,39 +16,64 @@ use Rattle.qu_objects.specs.declared.state.ObjState.{ObjState}
 use Rattle.qu_class.specs.declared.class.Class.{Class}
 use Rattle.qu_class.specs.declared.class.Class.TheVariants.{Method, InlineMethod, Copy, InlineBarrier, Barrier, Needs}
 use Rattle.qu_class.specs.Class.{class_in}
-use Rattle.qu_class.specs.Plan.{lowest_other}
+use Rattle.qu_class.specs.Plan.{first_apart}
 use Rattle.qu_class.specs.Repairable.{object_base}
 use Rattle.qu_class.specs.Rows.{IsGreatestOfKind}
 use Rattle.qu_mends.specs.declared.remedy.Remedy.{Remedy}
 use Rattle.qu_mends.specs.declared.remedy.Remedy.TheVariants.{Nothing, Shown, Fresh, Unshown, Unplanned}
 use Rattle.qu_mends.specs.declared.mend.Mend.{Mend}
 
--- a copy is of the object candidate, which has this stamp: of the target alone, if its plan needs no other object
+-- a copy is of the object candidate, which has this stamp, if no object of its group is apart
 abbrev pub copy_by : Stamp → Option ObjectId → Remedy
 copy_by base None = Fresh false base
 copy_by base (Some other) = Unplanned other
 
--- of an object with this object candidate
-unfoldable pub remedy_by : ObjectId → Candidate → Class → Remedy
-remedy_by object base (Method candidate) = Nothing
-remedy_by object base (InlineMethod candidate) = Shown candidate
-remedy_by object base Copy = copy_by base.stamp (lowest_other object base.group)
-remedy_by object base (InlineBarrier candidate) = Shown candidate
-remedy_by object base (Barrier prior) = Fresh true prior
-remedy_by object base (Needs member) = Unshown member
+-- of an object with this object candidate, whose group may have an object that is not copied with it
+unfoldable pub remedy_by : Option ObjectId → Candidate → Class → Remedy
+remedy_by apart base (Method candidate) = Nothing
+remedy_by apart base (InlineMethod candidate) = Shown candidate
+remedy_by apart base Copy = copy_by base.stamp apart
+remedy_by apart base (InlineBarrier candidate) = Shown candidate
+remedy_by apart base (Barrier prior) = Fresh true prior
+remedy_by apart base (Needs member) = Unshown member
+
+abbrev pub base_on : ℕ → List SetOf → ObjectId → Candidate
+base_on bounds sets object = object_base bounds (entries_of object sets)
 
 unfoldable pub remedy_of : ℕ → List SetOf → ObjectId → Remedy
 remedy_of bounds sets object =
-    remedy_by object (object_base bounds (entries_of object sets)) (class_in bounds sets object)
+    remedy_by (first_apart bounds sets (base_on bounds sets object)) (base_on bounds sets object)
+    (class_in bounds sets object)
 
 -- the group, as each candidate has one that is well formed
 abbrev pub whole_group : List (ObjectId × ℕ) → List (ObjectId × ℕ)
 whole_group group = if is_group group then group else []
 
--- what is added as it is, without barrier, is added with all members of its group
-abbrev pub group_of : Class → List (ObjectId × ℕ)
-group_of (InlineMethod candidate) = whole_group candidate.group
-group_of _ = []
+abbrev pub copied_group : List (ObjectId × ℕ) → Remedy → List (ObjectId × ℕ)
+copied_group group (Fresh barrier prior) = whole_group group
+copied_group group _ = []
+
+-- what is added as it is, without barrier, is added with all members of its group, and so is what is copied
+abbrev pub group_of : Candidate → Class → Remedy → List (ObjectId × ℕ)
+group_of base (InlineMethod candidate) remedy = whole_group candidate.group
+group_of base Copy remedy = copied_group base.group remedy
+group_of base _ remedy = []
+
+abbrev pub mended_group : ℕ → List SetOf → ObjectId → List (ObjectId × ℕ)
+mended_group bounds sets target =
+    group_of (base_on bounds sets target) (class_in bounds sets target) (remedy_of bounds sets target)
+
+-- the object has a time after the latest that the sets show of it
+abbrev pub has_time : List SetOf → ObjectId × ℕ → Bool
+has_time sets member = nat_lt (latest_of (entries_of member.0 sets)).time LAST_TIME
+
+abbrev pub fresh_member : List SetOf → ObjectId × ℕ → ObjectId × ℕ
+fresh_member sets member = (member.0, (latest_of (entries_of member.0 sets)).time + 1)
+
+-- the group of the candidates that are made on these objects together. Where one would have a time after the last there
+-- is none: then nothing is made.
+abbrev pub made_group : List SetOf → List (ObjectId × ℕ) → List (ObjectId × ℕ)
+made_group sets group = if list_all (has_time sets) group then map (fresh_member sets) group else []
 
 -- a request to mend an object, with what its culled sets say of it
 abbrev pub mend_of : ℕ → List SetOf → Digest → ObjectId → ClientId → Mend
@@ -58,17 +84,22 @@ mend_of bounds sets set target client =
       set = set;
       latest = latest_of (entries_of target sets);
       remedy = remedy_of bounds sets target;
-      group = group_of (class_in bounds sets target);
+      group = mended_group bounds sets target;
+      made = made_group sets (mended_group bounds sets target);
     }
 
--- the object candidate of a member is added as it is
-abbrev pub member_remedy : ℕ → List SetOf → ObjectId × ℕ → ObjectId × Remedy
-member_remedy bounds sets member = (member.0, Shown (object_base bounds (entries_of member.0 sets)))
+-- the object candidate of a member is copied, where that of the target is, and else added as it is
+abbrev pub alike : Remedy → Candidate → Remedy
+alike (Fresh barrier prior) base = Fresh barrier base.stamp
+alike _ base = Shown base
+
+abbrev pub member_remedy : ℕ → List SetOf → Remedy → ObjectId × ℕ → ObjectId × Remedy
+member_remedy bounds sets remedy member = (member.0, alike remedy (base_on bounds sets member.0))
 
 -- the objects that are mended: those of the group, which lists the target, or the target alone
 unfoldable pub remedies_by : ℕ → List SetOf → ObjectId → Remedy → List (ObjectId × ℕ) → List (ObjectId × Remedy)
 remedies_by bounds sets target remedy [] = (target, remedy) ∷ []
-remedies_by bounds sets target remedy (member ∷ later) = map (member_remedy bounds sets) (member ∷ later)
+remedies_by bounds sets target remedy (member ∷ later) = map (member_remedy bounds sets remedy) (member ∷ later)
 
 abbrev pub remedies_of : ℕ → List SetOf → Mend → List (ObjectId × Remedy)
 remedies_of bounds sets mend = remedies_by bounds sets mend.target mend.remedy mend.group
@@ -94,7 +125,7 @@ fresh_repair mend latest barrier prior =
         set = mend.set;
       };
       prior = prior;
-      group = [];
+      group = mend.made;
     }
 
 -- the candidate that the remedy adds; none has a time after the last

@@ -1,11 +1,11 @@
-ghost use Rattle.std.specs.Prelude.{◌≡◌, ◌≤◌, find, is_some, length, map, IfOk};
+ghost use Rattle.std.specs.Prelude.{◌≡◌, ◌≤◌, find, is_some, length, map, All, IfOk, IsTrue};
 ghost use Rattle.std.specs.List.{list_all, list_any};
 ghost use Rattle.std.specs.Option.{option_copied};
 ghost use Rattle.qu_base.specs.Bounds.{quorum};
-ghost use Rattle.qu_history.specs.Sets.{entries_of};
+ghost use Rattle.qu_history.specs.Sets.{entries_of, latest_of};
 ghost use Rattle.qu_mends.specs.Table.{has_no_room};
-ghost use Rattle.qu_mends.specs.Remedy.{mend_of, group_of, whole_group, remedies_of, member_remedy, addition_by, missing_key, stored_by, IsGrounded};
-ghost use Rattle.qu_mends.specs.Causes.{ArePartsOf, HasCause};
+ghost use Rattle.qu_mends.specs.Remedy.{mend_of, group_of, whole_group, has_time, fresh_member, made_group, remedies_of, member_remedy, addition_by, missing_key, stored_by, IsGrounded};
+ghost use Rattle.qu_mends.specs.Causes.{HasTime, ArePartsOf, HasCause};
 ghost use Rattle.qu_mends.specs.Mending.{is_held_part, is_passed, is_late, is_spent, missing_in, accepted_part, accepted_parts, mend_row_plan, mend_row_held, mend_row_current, mend_row_sound, mend_row_version, mend_row_time, mend_row_full, mend_row_mended, decide_mend};
 
 use super::{Accepted, Mending, Part, Remedy, Seen};
@@ -29,8 +29,11 @@ pub struct Mend {
     pub latest: Stamp,
     /// What mends the target, by its class.
     pub remedy: Remedy,
-    /// The objects that are mended with it, the target among them; none where it is mended alone.
+    /// The objects that are mended with it, the target among them, each with the time of what is shown there; none
+    /// where it is mended alone.
     pub group: Group,
+    /// The same objects, each with the time of what is made there; none where a time would be after the last.
+    pub made: Group,
 }
 
 // The replica's table for a request to mend an object: its rows in the order in which they are tried, below the order
@@ -38,20 +41,30 @@ pub struct Mend {
 impl Mend {
     /// The request with these culled sets, which have this digest and a quorum of histories of the target.
     #[tactic(auto, unfolding(crate::specs::Remedy::remedy_of))]
-    pub fn of(sets: &Sets, set: Digest, target: ObjectId, client: ClientId, bounds: &Bounds) -> Mend
+    pub fn of(
+        alloc: Global,
+        sets: &Sets,
+        set: Digest,
+        target: ObjectId,
+        client: ClientId,
+        bounds: &Bounds,
+    ) -> Result<Mend, NoMemory>
         requires quorum { quorum bounds.now ≤ length (entries_of target sets.now) }
-        ensures value { result ≡ mend_of bounds.now sets.now set target client }
-        ensures grounds { IsGrounded bounds.now (entries_of target sets.now) result.remedy }
+        ensures value { IfOk result (λ mend. mend ≡ mend_of bounds.now sets.now set target client) }
+        ensures grounds { IfOk result (λ mend. IsGrounded bounds.now (entries_of target sets.now) mend.remedy) }
     {
         let seen = Seen::of(sets, target, bounds);
-        Mend {
+        let remedy = Remedy::of(sets, &seen, bounds);
+        let group = group_of(&seen, &remedy);
+        Ok(Mend {
             target,
             client,
             set,
             latest: seen.latest,
-            remedy: Remedy::of(&seen),
-            group: group_of(&seen.class),
-        }
+            remedy,
+            group,
+            made: made_group(alloc, sets, &group)?,
+        })
     }
 
     /// The objects that are mended, each with what mends it: those of the group, or the target.
@@ -66,7 +79,7 @@ impl Mend {
     {
         match self.group.pairs() {
             [] => List::one(alloc, (self.target, self.remedy)),
-            members => member_remedies(alloc, sets, members, bounds),
+            members => member_remedies(alloc, sets, &self.remedy, members, bounds),
         }
     }
 
@@ -275,17 +288,18 @@ impl Mend {
         Some(Candidate {
             stamp,
             prior,
-            group: Group::none(),
+            group: self.made,
         })
     }
 }
 
-/// What is added as it is, without barrier, is added with all members of its group.
-fn group_of(class: &Class) -> Group
-    ensures { result ≡ group_of class.now }
+/// What is added as it is, without barrier, is added with all members of its group, and so is what is copied.
+fn group_of(seen: &Seen, remedy: &Remedy) -> Group
+    ensures { result ≡ group_of seen.now.base seen.now.class remedy.now }
 {
-    match class {
-        Class::InlineMethod(candidate) => whole_group(&candidate.group),
+    match (&seen.class, remedy) {
+        (Class::InlineMethod(candidate), _) => whole_group(&candidate.group),
+        (Class::Copy, Remedy::Fresh { .. }) => whole_group(&seen.base.group),
         _ => Group::none(),
     }
 }
@@ -300,18 +314,67 @@ fn whole_group(group: &Group) -> Group
     }
 }
 
-/// The members, each with its object candidate, which is added as it is.
-fn member_remedies(
+/// The group of the candidates that are made on these objects together.
+#[tactic(auto, using(crate::proofs::MadeGroups::made_whole))]
+fn made_group(alloc: Global, sets: &Sets, group: &Group) -> Result<Group, NoMemory>
+    ensures { IfOk result (λ made. made ≡ made_group sets.now group.now) }
+{
+    let objects = group.pairs();
+    if !have_times(sets, objects) {
+        return Ok(Group::none());
+    }
+    let members = fresh_members(alloc, sets, objects)?;
+    Ok(Group::new(members.as_slice()).unwrap())
+}
+
+/// Whether each object has a time after the latest that the sets show of it.
+#[tactic(auto, using(crate::proofs::MadeGroups::all_timed))]
+fn have_times(sets: &Sets, members: &[(ObjectId, u64)]) -> bool
+    ensures value { result ≡ list_all (has_time sets.now) members.now }
+    ensures all { IsTrue result → All (HasTime sets.now) members.now }
+{
+    members
+        .iter()
+        .all(|member| latest_of(sets, member.0).time < LAST_TIME)
+}
+
+/// The latest stamp that the sets show of the object.
+#[tactic(auto, using(qu_history::proofs::Method::latest_of_none))]
+fn latest_of(sets: &Sets, object: ObjectId) -> Stamp
+    ensures { result ≡ latest_of (entries_of object sets.now) }
+{
+    sets.latest(object).unwrap_or(Stamp::opening())
+}
+
+/// These objects, each with the time of the candidate that is made there.
+fn fresh_members(
     alloc: Global,
     sets: &Sets,
     members: &[(ObjectId, u64)],
+) -> Result<List<(ObjectId, u64)>, NoMemory>
+    requires { All (HasTime sets.now) members.now }
+    ensures { IfOk result (λ fresh. fresh ≡ map (fresh_member sets.now) members.now) }
+{
+    let mut fresh = List::new(alloc);
+    for member in members {
+        fresh.push((member.0, latest_of(sets, member.0).time + 1))?;
+    }
+    Ok(fresh)
+}
+
+/// The members, each mended as the target is, upon its object candidate.
+fn member_remedies(
+    alloc: Global,
+    sets: &Sets,
+    remedy: &Remedy,
+    members: &[(ObjectId, u64)],
     bounds: &Bounds,
 ) -> Result<List<(ObjectId, Remedy)>, NoMemory>
-    ensures { IfOk result (λ remedies. remedies ≡ map (member_remedy bounds.now sets.now) members.now) }
+    ensures { IfOk result (λ remedies. remedies ≡ map (member_remedy bounds.now sets.now remedy.now) members.now) }
 {
     let mut remedies = List::new(alloc);
     for member in members {
-        remedies.push((member.0, Remedy::Shown(object_base(sets, member.0, bounds))))?;
+        remedies.push((member.0, remedy.alike(object_base(sets, member.0, bounds))))?;
     }
     Ok(remedies)
 }

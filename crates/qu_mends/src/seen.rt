@@ -1,4 +1,4 @@
-ghost use Rattle.std.specs.Prelude.{◌≡◌, ◌≤◌, false, length};
+ghost use Rattle.std.specs.Prelude.{◌≡◌, ◌≤◌, false, length, Option};
 ghost use Rattle.qu_base.specs.Bounds.{quorum};
 ghost use Rattle.qu_history.specs.Sets.{entries_of};
 ghost use Rattle.qu_class.specs.Class.{class_in, method_of};
@@ -30,8 +30,8 @@ impl Seen {
     #[tactic(auto, using(qu_history::proofs::Method::latest_of_none, qu_class::proofs::ClassRows::method_told))]
     pub fn of(sets: &Sets, object: ObjectId, bounds: &Bounds) -> Seen
         ensures value { result ≡ seen_in bounds.now sets.now object }
-        ensures grounds { quorum bounds.now ≤ length (entries_of object sets.now)
-            → IsGrounded bounds.now (entries_of object sets.now) (remedy_by object result.base result.class) }
+        ensures grounds { (apart : Option ObjectId) → quorum bounds.now ≤ length (entries_of object sets.now)
+            → IsGrounded bounds.now (entries_of object sets.now) (remedy_by apart result.base result.class) }
     {
         let class = classify(sets, object, bounds);
         let latest = sets.latest(object).unwrap_or(Stamp::opening());

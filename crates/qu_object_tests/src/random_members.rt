@@ -3,7 +3,7 @@
 ghost use Rattle.std.specs.Prelude.{◌<◌};
 
 use qu_base::{Bounds, ClientId, Digest, List, ObjectId, ReplicaId};
-use qu_class::{Class, classify};
+use qu_class::{Class, CopyPlan, PlanFail, classify, plan_copy};
 use qu_history::{History, Sealed, SetOf, Sets};
 use qu_stamp::{Candidate, Group, Stamp};
 use qu_testing::holds;
@@ -203,6 +203,52 @@ fn disagrees(sets: &Sets, candidate: &Candidate, object: ObjectId, bounds: &Boun
     latest(sets, object) != stamp || base.stamp != stamp || base.group != candidate.group
 }
 
+/// The lowest object of the target's group that keeps its copy from a plan.
+fn slow_apart(sets: &Sets, target: ObjectId, bounds: &Bounds) -> Option<ObjectId> {
+    let base = base_of(sets, target, bounds);
+    for number in 0..64 {
+        if is_apart(sets, &base, ObjectId(number), bounds) {
+            return Some(ObjectId(number));
+        }
+    }
+    None
+}
+
+fn is_apart(sets: &Sets, candidate: &Candidate, object: ObjectId, bounds: &Bounds) -> bool {
+    let Some(stamp) = candidate.member(object) else {
+        return false;
+    };
+    let base = base_of(sets, object, bounds);
+    slow_class(sets, object, bounds) != Class::Copy
+        || base.stamp != stamp
+        || base.group != candidate.group
+}
+
+/// Whether a plan copies the object candidates of all objects of the target's group, or that of the target alone.
+fn copies_all(sets: &Sets, target: ObjectId, bounds: &Bounds, plan: &CopyPlan) -> bool {
+    let base = base_of(sets, target, bounds);
+    for (object, candidate) in &plan.joint {
+        if *candidate != base_of(sets, *object, bounds) || candidate.group != base.group {
+            return false;
+        }
+    }
+    let copied = plan.joint.as_slice().len();
+    copied == base.group.pairs().len() || copied == 1 && base.group == Group::none()
+}
+
+/// Whether the plan of the first object, if it is of class COPY, is that of the definition.
+fn is_plan_of_the_definition(alloc: Global, sets: &Sets, bounds: &Bounds) -> bool {
+    let Class::Copy = classify(sets, ObjectId(0), bounds) else {
+        return true;
+    };
+    let apart = slow_apart(sets, ObjectId(0), bounds);
+    match plan_copy(alloc, sets, ObjectId(0), bounds) {
+        Ok(plan) => apart.is_none() && copies_all(sets, ObjectId(0), bounds, &plan),
+        Err(PlanFail::Needs(object)) => apart == Some(object),
+        Err(PlanFail::NoMemory) => false,
+    }
+}
+
 /// The place of the class in the table; inline methods with a group stand apart.
 fn place_of(class: &Class) -> usize
     ensures { result < 7 }
@@ -234,6 +280,10 @@ fn classes_of_random_sets_with_groups_are_those_of_the_table(rt: HostRuntime) ->
         holds(
             class == slow_class(&sets, ObjectId(0), &bounds),
             "the class of the table",
+        )?;
+        holds(
+            is_plan_of_the_definition(rt.alloc(), &sets, &bounds),
+            "the plan of the definition",
         )?;
         seen[place_of(&class)] = true;
     }

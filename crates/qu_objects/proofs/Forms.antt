@@ -18,7 +18,7 @@ use Rattle.qu_base.specs.Texts.{word_form, content_form, name_form, listing_form
 use Rattle.qu_base.proofs.TextForms.{word-exact, content-exact, name-exact, listing-exact}
 use Rattle.qu_objects.specs.declared.answer.Answer.{Answer}
 use Rattle.qu_objects.specs.declared.answer.Answer.TheVariants as answer
-use Rattle.qu_objects.specs.declared.limits.TheConstants.{MOST_PARTS, PARTS_LIMIT, LAST_METHOD, LAST_ASK, LAST_ITEM}
+use Rattle.qu_objects.specs.declared.limits.TheConstants.{MOST_PARTS, LAST_METHOD, LAST_ASK, LAST_ITEM}
 use Rattle.qu_objects.specs.RefusalNumber.{is_kind_refusal}
 use Rattle.qu_objects.specs.Formats.{method_code, added, taken, put_there, appended, linked, link_to, entry_pair, unlinked, is_method_code, method_body, method_form, ask_code, name_asked, is_ask_code, ask_body, ask_form, item_code, item_number, item_bytes, item_entries, is_item_code, any_name, item_body, item_form, is_after, next_object, part_form, spelled_object, parts_form, act_form, query_form, part_refusal_form, items_form, answer_code, answered, refused_part, is_answer_code, answer_body, answer_form}
 
@@ -250,15 +250,15 @@ query-exact known = parts-exact ask_form ask-exact known
 
 refusal-exact : IsExact part_refusal_form
 refusal-exact =
-    both-exact (below w8 PARTS_LIMIT) (λ at. tested is_kind_refusal Range (number w8 0 255))
-    (byte-exact 0 (PARTS_LIMIT - 1) (omega arith))
+    both-exact (below w8 MOST_PARTS) (λ at. tested is_kind_refusal Range (number w8 0 255))
+    (byte-exact 0 (MOST_PARTS - 1) (omega arith))
     (λ at fits. tested-exact is_kind_refusal Range (number w8 0 255) (byte-exact 0 255 (omega arith)))
 
 items-exact : IsExact items_form
 items-exact =
     counted-exact {K = Unit {0}} item_form.spell (λ before. item_form) (λ item. tt) (λ before. item-exact)
     (λ before item. refl)
-    (number w8 1 PARTS_LIMIT) tt (byte-exact 1 PARTS_LIMIT (omega arith))
+    (number w8 1 MOST_PARTS) tt (byte-exact 1 MOST_PARTS (omega arith))
 
 answered_back : (given : Answer) (items : List Item) → answered given ≡ Some items → answer.Ok items ≡ given
 answered_back (answer.Ok other) items is = cc

@@ -1,6 +1,5 @@
-pub mod Single
+pub mod PartLaws
 pub mod Forms
 pub mod Text
 pub mod ReadingLaws
 pub mod StateLaws
-pub mod FewParts

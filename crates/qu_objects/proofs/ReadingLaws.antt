@@ -1,11 +1,11 @@
 -- What readers and writers stand on.
-use Rattle.std.proofs.Common.{◌≡◌, ℕ, ◌<◌, Bool, true, false, ◌&&◌, List, [], ◌∷◌, length, Ok, refl, arith}
+use Rattle.std.proofs.Common.{◌≡◌, ℕ, ◌<◌, Bool, true, false, ◌&&◌, List, [], ◌∷◌, length, map, Option, None, Some, Ok, refl, arith}
 use Rattle.std.specs.Prelude.{IsTrue, nat_le}
 use Rattle.std.proofs.lemmas.Bool.{lt-ltb, le-leb, false≢true}
 use Rattle.qu_base.specs.declared.limits.TheConstants.{OBJECT_IDS, CONTENT_LIMIT, NAME_LIMIT}
 use Rattle.qu_base.specs.declared.party.ObjectId.{ObjectId}
 use Rattle.qu_base.specs.Cursor.{Front}
-use Rattle.qu_base.specs.Format.{IsPrefixCode, object_form, Format, AreBytes}
+use Rattle.qu_base.specs.Format.{IsPrefixCode, object_form, Format, FitsFrom, AreBytes}
 use Rattle.qu_base.proofs.PrefixCodes.{prefix_code}
 use Rattle.qu_base.proofs.Reading.{given_exactly}
 use Rattle.qu_base.specs.Texts.{content_form, name_form}
@@ -13,9 +13,10 @@ use Rattle.qu_objects.specs.declared.act.Method.{Method}
 use Rattle.qu_objects.specs.declared.act.Method.TheVariants.{Add, Take, Put, Append, Link, Unlink}
 use Rattle.qu_objects.specs.declared.query.Ask.{Ask}
 use Rattle.qu_objects.specs.declared.query.Ask.TheVariants.{Read, Cat, Find, All}
-use Rattle.qu_objects.specs.Parts.{are_parts, is_sized_method, is_sized_ask, are_sized}
-use Rattle.qu_objects.specs.Formats.{method_form, ask_form, item_form, parts_form, act_form, query_form, answer_form}
+use Rattle.qu_objects.specs.Parts.{are_objects_from, are_parts, is_sized_method, is_sized_ask, are_sized}
+use Rattle.qu_objects.specs.Formats.{method_form, ask_form, item_form, part_form, parts_form, act_form, query_form, answer_form}
 use Rattle.qu_objects.specs.Digesting.{act_text_form}
+use Rattle.qu_objects.proofs.PartLaws.{after_object, is_from}
 use Rattle.qu_objects.proofs.Forms.{method-exact, ask-exact, item-exact, act-exact, query-exact, answer-exact}
 use Rattle.qu_objects.proofs.Text.{act_text-exact}
 use Rattle.qu_objects.proofs.StateLaws.{state-code}
@@ -27,11 +28,21 @@ both_true false b first second = absurd (false≢true first)
 object_below : (object : ObjectId) → object_form.Fits object → object.0 < OBJECT_IDS
 object_below object fits = omega (arith, fits.1)
 
+-- the objects of parts that fit rise
+objects_rise : {X : Type 0} (form : Format X) (known : ObjectId → Bool) (before : Option ObjectId)
+    (parts : List (ObjectId × X)) → FitsFrom (part_form form known) (λ part. Some part.0) before parts
+    → IsTrue (are_objects_from (after_object before) (map (λ part. part.0) parts))
+unfolding are_objects_from
+objects_rise form known before [] fits = refl
+objects_rise form known before (part ∷ later) fits =
+    both_true _ _
+    (both_true _ _ (le-leb _ _ (is_from before part.0 fits.0.0.1)) (lt-ltb _ _ (object_below part.0 fits.0.0.0.0)))
+    (objects_rise form known (Some part.0) later fits.1)
+
 pub in_order : {X : Type 0} (form : Format X) (known : ObjectId → Bool) (parts : List (ObjectId × X))
     → (parts_form form known).Fits parts → IsTrue (are_parts parts)
-in_order form known [] fits = absurd (omega (arith, fits.0))
-in_order form known (part ∷ []) fits = lt-ltb _ _ (object_below part.0 fits.1.1.0.0.0.0)
-in_order form known (first ∷ second ∷ parts) fits = absurd (omega (arith, fits.0))
+in_order form known parts fits =
+    both_true _ _ (both_true _ _ (le-leb _ _ fits.0.0) (le-leb _ _ fits.0.1)) (objects_rise form known None parts fits.1.1)
 
 -- ---- what has a spelling is no longer than it may be
 
@@ -59,11 +70,16 @@ ask_sized Cat fits = refl
 ask_sized (Find name) fits = short_name name fits.1
 ask_sized All fits = refl
 
+each_sized : {X : Type 0} (form : Format X) (test : X → Bool) (known : ObjectId → Bool)
+    → ((it : X) → form.Fits it → IsTrue (test it)) → (before : Option ObjectId) (parts : List (ObjectId × X))
+    → FitsFrom (part_form form known) (λ part. Some part.0) before parts → IsTrue (are_sized test parts)
+each_sized form test known short before [] fits = refl
+each_sized form test known short before (part ∷ later) fits =
+    both_true _ _ (short part.1 fits.0.1) (each_sized form test known short (Some part.0) later fits.1)
+
 sized : {X : Type 0} (form : Format X) (test : X → Bool) (known : ObjectId → Bool) (parts : List (ObjectId × X))
     → ((it : X) → form.Fits it → IsTrue (test it)) → (parts_form form known).Fits parts → IsTrue (are_sized test parts)
-sized form test known [] short fits = refl
-sized form test known (part ∷ []) short fits = both_true _ _ (short part.1 fits.1.1.0.1) refl
-sized form test known (first ∷ second ∷ parts) short fits = absurd (omega (arith, fits.0))
+sized form test known parts short fits = each_sized form test known short None parts fits.1.1
 
 -- the parts of an act that were read are in order
 pub act_in_order : (known : ObjectId → Bool) (old new : Front) (parts : List (ObjectId × Method))

@@ -1,23 +1,24 @@
 -- Two acts with one text are one act of one client and number.
-use Rattle.std.proofs.Common.{◌≡◌, ℕ, ◌-◌, ◌^◌, ◌<◌, ◌≤◌, List, [], ◌∷◌, length, Some, refl, sym, ap, arith}
-use Rattle.std.specs.Prelude.{IsTrue}
-use Rattle.std.proofs.lemmas.Bool.{ltb-true}
+use Rattle.std.proofs.Common.{◌≡◌, ℕ, ◌-◌, ◌^◌, ◌<◌, ◌≤◌, List, [], ◌∷◌, length, map, Option, None, Some, refl, sym, ap, arith}
+use Rattle.std.specs.Prelude.{IsTrue, nat_lt, nat_le}
+use Rattle.std.proofs.lemmas.Bool.{and_parts, leb-true, ltb-true}
 use Rattle.std.specs.Int.{w16}
 use Rattle.qu_base.specs.declared.limits.TheConstants.{OBJECT_IDS, CONTENT_LIMIT, NAME_LIMIT}
 use Rattle.qu_base.specs.declared.party.ClientId.{ClientId}
 use Rattle.qu_base.specs.declared.party.ObjectId.{ObjectId}
-use Rattle.qu_base.specs.Format.{object_form, number, both, IsExact}
+use Rattle.qu_base.specs.Format.{object_form, number, both, FitsFrom, IsExact}
 use Rattle.qu_base.proofs.Formats.{some_is, wide16, number-exact, both-exact, made-exact}
 use Rattle.qu_base.proofs.PrefixCodes.{one_spelling}
 use Rattle.qu_objects.specs.declared.act.Method.{Method}
 use Rattle.qu_objects.specs.declared.act.Method.TheVariants.{Add, Take, Put, Append, Link, Unlink}
 use Rattle.qu_objects.specs.declared.query.Ask.{Ask}
 use Rattle.qu_objects.specs.declared.query.Ask.TheVariants.{Read, Cat, Find, All}
-use Rattle.qu_objects.specs.Parts.{are_parts}
+use Rattle.qu_objects.specs.Parts.{is_object_from, are_objects_from, are_parts}
 use Rattle.qu_base.specs.Texts.{word_form, content_form, name_form}
 use Rattle.qu_base.proofs.TextForms.{word-exact}
-use Rattle.qu_objects.specs.Formats.{method_form, ask_form, act_form}
+use Rattle.qu_objects.specs.Formats.{method_form, ask_form, part_form, act_form}
 use Rattle.qu_objects.specs.Digesting.{any_object, any_client, act_text_form, act_text, MethodFits, PartsFit, AskFits}
+use Rattle.qu_objects.proofs.PartLaws.{parts_are, after_object, is_behind}
 use Rattle.qu_objects.proofs.Forms.{act-exact}
 
 client-exact : IsExact any_client
@@ -63,15 +64,26 @@ ask_fits All fits = (((omega arith, omega arith), refl), refl)
 object_fits : (object : ObjectId) → object.0 < OBJECT_IDS → object_form.Fits object
 object_fits object below = (omega arith, omega arith)
 
+each_fits : (before : Option ObjectId) (parts : List (ObjectId × Method))
+    → IsTrue (are_objects_from (after_object before) (map (λ part. part.0) parts)) → PartsFit parts
+    → FitsFrom (part_form method_form any_object) (λ part. Some part.0) before parts
+unfolding are_objects_from
+each_fits before [] rise fits = tt
+each_fits before (part ∷ later) rise fits =
+    let both = and_parts (is_object_from (after_object before) part.0) _ rise in
+    let here = and_parts (nat_le (after_object before) (part.0).0) (nat_lt (part.0).0 OBJECT_IDS) both.0 in (
+      (
+        ((object_fits part.0 (ltb-true _ _ here.1), refl), is_behind before part.0 (leb-true _ _ here.0)),
+        method_fits part.1 fits.0,
+      ),
+      each_fits (Some part.0) later both.1 fits.1,
+    )
+
 act_fits : (parts : List (ObjectId × Method)) → IsTrue (are_parts parts) → PartsFit parts
     → (act_form any_object).Fits parts
 unfolding act_form
-act_fits [] in_order fits = absurd cc
-act_fits (part ∷ []) in_order fits = (
-  (omega arith, omega arith),
-  (refl, ((((object_fits part.0 (ltb-true _ _ in_order), refl), refl), method_fits part.1 fits.0), tt)),
-)
-act_fits (first ∷ second ∷ parts) in_order fits = absurd cc
+act_fits parts in_order fits =
+    let are = parts_are parts in_order in ((are.some, are.few), (refl, each_fits None parts are.rise fits))
 
 text_fits : (client : ClientId) (number : ℕ) (parts : List (ObjectId × Method)) → client.0 < 2 ^ 16
     → number < 2 ^ 64 → IsTrue (are_parts parts) → PartsFit parts

@@ -14,7 +14,7 @@ use Rattle.qu_base.specs.declared.kind.Item.{Item}
 use Rattle.qu_base.specs.declared.kind.Item.TheVariants.{Number, Bytes, Entries}
 use Rattle.qu_objects.specs.declared.answer.Answer.{Answer}
 use Rattle.qu_objects.specs.declared.answer.Answer.TheVariants as answer
-use Rattle.qu_objects.specs.declared.limits.TheConstants.{MOST_PARTS, PARTS_LIMIT, LAST_METHOD, LAST_ASK, LAST_ITEM}
+use Rattle.qu_objects.specs.declared.limits.TheConstants.{MOST_PARTS, LAST_METHOD, LAST_ASK, LAST_ITEM}
 use Rattle.qu_objects.specs.RefusalNumber.{is_kind_refusal}
 
 -- ---- methods, asks and items
@@ -169,14 +169,14 @@ query_form known = parts_form ask_form known
 
 -- the position of a part, and the number of the refusal
 abbrev pub part_refusal_form : Format (ℕ × ℕ)
-part_refusal_form = both (below w8 PARTS_LIMIT) (λ at. tested is_kind_refusal Range (number w8 0 255))
+part_refusal_form = both (below w8 MOST_PARTS) (λ at. tested is_kind_refusal Range (number w8 0 255))
 
 abbrev pub some_items : ℕ → Format (List Item)
 some_items count = items {K = Unit {0}} item_form.spell (λ before. item_form) (λ item. tt) tt count
 
 -- one item or more
 abbrev pub items_form : Format (List Item)
-items_form = counted {K = Unit {0}} (number w8 1 PARTS_LIMIT) item_form.spell (λ before. item_form) (λ item. tt) tt
+items_form = counted {K = Unit {0}} (number w8 1 MOST_PARTS) item_form.spell (λ before. item_form) (λ item. tt) tt
 
 abbrev pub answer_code : Answer → ℕ
 answer_code (answer.Ok items) = 0

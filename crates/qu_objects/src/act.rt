@@ -1,7 +1,8 @@
 ghost use Rattle.std.specs.Prelude.{◌≡◌, ◌<◌, ◌↔◌, IsOk, IfOk, IsTrue};
 ghost use Rattle.qu_objects.specs.Parts.{are_parts, is_sized_method, are_sized};
 
-use qu_base::{CONTENT_LIMIT, List, NAME_LIMIT, NoMemory, OBJECT_IDS, ObjectId};
+use super::parts::are_parts;
+use qu_base::{CONTENT_LIMIT, List, NAME_LIMIT, NoMemory, ObjectId};
 use std::alloc::Global;
 use std::marker::Model;
 
@@ -61,16 +62,16 @@ impl Model for Act {
 }
 
 impl Act {
-    /// Refuses exactly where there is not one part, where its object is not below `OBJECT_IDS`, or where it carries
-    /// more than it may.
+    /// Refuses exactly where there is no part or there are more than `MOST_PARTS`, where the objects do not rise or
+    /// one is not below `OBJECT_IDS`, or where a part carries more than it may.
     pub fn new(parts: List<(ObjectId, Method)>) -> Result<Act, BadParts>
         ensures accepted { IsOk result ↔ (IsTrue (are_parts parts) × IsTrue (are_sized is_sized_method parts)) }
         ensures value { IfOk result (λ act. act ≡ parts) }
     {
-        match parts.as_slice() {
-            [(object, method)] if object.0 < OBJECT_IDS && method.is_sized() => Ok(Act { parts }),
-            _ => Err(BadParts),
+        if !are_parts(parts.as_slice()) || !are_sized(parts.as_slice()) {
+            return Err(BadParts);
         }
+        Ok(Act { parts })
     }
 
     /// The objects in rising order, each with what is done to it.
@@ -89,4 +90,11 @@ impl Act {
         let parts = self.parts.copy(alloc)?;
         Ok(Act { parts })
     }
+}
+
+/// Whether no part carries more than it may.
+fn are_sized(parts: &[(ObjectId, Method)]) -> bool
+    ensures { result ≡ are_sized is_sized_method parts.now }
+{
+    parts.iter().all(|(_, method)| method.is_sized())
 }

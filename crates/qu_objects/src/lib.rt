@@ -8,6 +8,7 @@ mod formats;
 mod kind;
 mod limits;
 mod op;
+mod parts;
 mod performing;
 mod query;
 mod reading;
@@ -27,7 +28,7 @@ pub use digesting::{act_digest, act_text};
 pub use formats::formats_are_codes;
 pub use kind::{KindName, Value};
 pub use limits::{
-    KEPT_LIMIT, LAST_ASK, LAST_ITEM, LAST_KIND, LAST_METHOD, LINKS_LIMIT, MOST_PARTS, PARTS_LIMIT,
+    KEPT_LIMIT, LAST_ASK, LAST_ITEM, LAST_KIND, LAST_METHOD, LINKS_LIMIT, MOST_PARTS,
     limits_are_these,
 };
 pub use op::{Op, Outcome};

@@ -1,10 +1,7 @@
 ghost use Rattle.std.specs.Prelude.{◌≡◌};
 
-/// The most parts of an operation.
-pub const MOST_PARTS: u8 = 1;
-
-/// The most parts of which an answer has room to tell.
-pub const PARTS_LIMIT: u8 = 4;
+/// The most parts of an operation, and so the most of which an answer or a verdict tells.
+pub const MOST_PARTS: u8 = 4;
 
 /// The last code of a method.
 pub const LAST_METHOD: u8 = 6;
@@ -26,8 +23,7 @@ pub const LINKS_LIMIT: u8 = 64;
 
 /// The limits of this crate, by their numbers.
 pub fn limits_are_these()
-    ensures most_parts { MOST_PARTS ≡ 1 }
-    ensures parts_limit { PARTS_LIMIT ≡ 4 }
+    ensures most_parts { MOST_PARTS ≡ 4 }
     ensures last_method { LAST_METHOD ≡ 6 }
     ensures last_ask { LAST_ASK ≡ 4 }
     ensures last_item { LAST_ITEM ≡ 3 }

@@ -25,7 +25,7 @@ impl PerformedValues {
 }
 
 /// Performs an act on the values of its objects, given in the order of its parts.
-#[tactic(auto, using(crate::proofs::FewParts::few_parts))]
+#[tactic(auto, using(crate::proofs::PartLaws::few_parts))]
 pub fn perform(alloc: Global, values: &[Value], act: &Act) -> Result<PerformedValues, NoMemory>
     requires { length values.now ≡ length act.now }
     ensures values { IfOk result (λ performed. performed.values ≡ performed_values act.now values.now) }
@@ -54,7 +54,7 @@ pub fn perform(alloc: Global, values: &[Value], act: &Act) -> Result<PerformedVa
 }
 
 /// Answers a query from the values of its objects, given in the order of its parts.
-#[tactic(auto, using(crate::proofs::FewParts::few_parts))]
+#[tactic(auto, using(crate::proofs::PartLaws::few_parts))]
 pub fn tell_all(alloc: Global, values: &[Value], query: &Query) -> Result<Answer, NoMemory>
     requires { length values.now ≡ length query.now }
     ensures { IfOk result (λ answer. answer ≡ told_answer query.now values.now) }

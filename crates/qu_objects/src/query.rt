@@ -2,7 +2,8 @@ ghost use Rattle.std.specs.Prelude.{◌≡◌, ◌<◌, ◌↔◌, IsOk, IfOk, I
 ghost use Rattle.qu_objects.specs.Parts.{are_parts, is_sized_ask, are_sized};
 
 use super::BadParts;
-use qu_base::{List, NAME_LIMIT, NoMemory, OBJECT_IDS, ObjectId};
+use super::parts::are_parts;
+use qu_base::{List, NAME_LIMIT, NoMemory, ObjectId};
 use std::alloc::Global;
 use std::marker::Model;
 
@@ -51,16 +52,16 @@ impl Model for Query {
 }
 
 impl Query {
-    /// Refuses exactly where there is not one part, where its object is not below `OBJECT_IDS`, or where it carries
-    /// more than it may.
+    /// Refuses exactly where there is no part or there are more than `MOST_PARTS`, where the objects do not rise or
+    /// one is not below `OBJECT_IDS`, or where a part carries more than it may.
     pub fn new(parts: List<(ObjectId, Ask)>) -> Result<Query, BadParts>
         ensures accepted { IsOk result ↔ (IsTrue (are_parts parts) × IsTrue (are_sized is_sized_ask parts)) }
         ensures value { IfOk result (λ query. query ≡ parts) }
     {
-        match parts.as_slice() {
-            [(object, ask)] if object.0 < OBJECT_IDS && ask.is_sized() => Ok(Query { parts }),
-            _ => Err(BadParts),
+        if !are_parts(parts.as_slice()) || !are_sized(parts.as_slice()) {
+            return Err(BadParts);
         }
+        Ok(Query { parts })
     }
 
     /// The objects in rising order, each with what is asked of it.
@@ -79,4 +80,11 @@ impl Query {
         let parts = self.parts.copy(alloc)?;
         Ok(Query { parts })
     }
+}
+
+/// Whether no part carries more than it may.
+fn are_sized(parts: &[(ObjectId, Ask)]) -> bool
+    ensures { result ≡ are_sized is_sized_ask parts.now }
+{
+    parts.iter().all(|(_, ask)| ask.is_sized())
 }

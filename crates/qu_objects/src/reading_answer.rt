@@ -5,7 +5,7 @@ ghost use Rattle.qu_objects.specs.Formats.{some_items, items_form, part_refusal_
 
 use super::reading::read_item;
 use super::refusal_number::is_kind_refusal;
-use super::{Answer, PARTS_LIMIT};
+use super::{Answer, MOST_PARTS};
 use qu_base::{BadText, Cursor, Item, List, ReadFail, Why};
 use std::alloc::Global;
 
@@ -45,7 +45,7 @@ fn coded_answer(alloc: Global, text: &mut Cursor<'_>) -> Result<Answer, ReadFail
 fn counted_items(alloc: Global, text: &mut Cursor<'_>) -> Result<List<Item>, ReadFail>
     ensures { Gives items_form result text.old text.new }
 {
-    let count = text.u8_within(1, PARTS_LIMIT)?;
+    let count = text.u8_within(1, MOST_PARTS)?;
     read_items(alloc, count, text)
 }
 
@@ -66,7 +66,7 @@ fn read_items(alloc: Global, count: u8, text: &mut Cursor<'_>) -> Result<List<It
 fn read_refusal(text: &mut Cursor<'_>) -> Result<(u8, u8), BadText>
     ensures { Reads part_refusal_form result text.old text.new }
 {
-    let at = text.u8_within(0, PARTS_LIMIT - 1)?;
+    let at = text.u8_within(0, MOST_PARTS - 1)?;
     let start = text.ahead();
     let why = text.u8_within(0, 255)?;
     if !is_kind_refusal(why) {

@@ -9,7 +9,7 @@ use qu_base::{Item, NoMemory, Outbytes};
 
 /// Appends an answer. Without memory the text stays as it is.
 ///
-/// It can be read again where it has one to `PARTS_LIMIT` items, or where the refused part has a
+/// It can be read again where it has one to `MOST_PARTS` items, or where the refused part has a
 /// position below that and the refusal one of its numbers.
 pub fn write_answer(answer: &Answer, out: &mut Outbytes) -> Result<(), NoMemory>
     ensures ok { OnOk result (out.new ≡ out.old ++ answer_form.spell answer.now) }

@@ -50,9 +50,12 @@ premises_line (Forged event) = codes "premises forged " ++ decimal event
 premises_line (Collide first second) = codes "premises collide " ++ decimal first ++ codes " " ++ decimal second
 
 -- how many operations there are, and how many of them ended in each way
-unfoldable pub end_line : List OpRecord → List ℕ
-end_line operations =
-    codes "end calls " ++ decimal (length operations)
+unfoldable pub counts_text : List OpRecord → List ℕ
+counts_text operations =
+    codes "calls " ++ decimal (length operations)
     ++ codes " done " ++ decimal (count_by ended_done operations)
     ++ codes " gaveup " ++ decimal (count_by ended_given_up operations)
     ++ codes " open " ++ decimal (count_by never_ended operations)
+
+unfoldable pub end_line : List OpRecord → List ℕ
+end_line operations = codes "end " ++ counts_text operations

@@ -3,3 +3,4 @@ pub mod Words
 pub mod Timeline
 pub mod Ends
 pub mod Report
+pub mod Summary

@@ -1,7 +1,7 @@
 ghost use Rattle.std.specs.Prelude.{◌≡◌, ◌∷◌, [], ◌++◌, OnOk, count_by, string_bytes};
 ghost use Rattle.qu_trace.specs.declared.premises.Premises.TheVariants.{Collide};
 ghost use Rattle.qu_print.specs.Lines.{lines_text};
-ghost use Rattle.qu_print.specs.Ends.{open_lines, open_lines_of, premises_line, end_line, ended_done, ended_given_up, never_ended};
+ghost use Rattle.qu_print.specs.Ends.{open_lines, open_lines_of, premises_line, end_line, counts_text, ended_done, ended_given_up, never_ended};
 
 use qu_base::NoMemory;
 use qu_machine::OpRecord;
@@ -78,11 +78,22 @@ fn put_open_of(text: &mut String, client: u16, operations: &[OpRecord]) -> Resul
     Ok(())
 }
 
-/// Writes how many operations there are, and how they ended.
+/// Writes the line that counts how operations ended.
 #[tactic(auto, unfolding(crate::specs::Lines::lines_text, crate::specs::Ends::end_line))]
 fn put_end_line(text: &mut String, operations: &[OpRecord]) -> Result<(), NoMemory>
     ensures { OnOk result (string_bytes text.new
         ≡ string_bytes text.old ++ lines_text (end_line operations.now ∷ [])) }
+{
+    text.push_str("end ")?;
+    put_counts(text, operations)?;
+    text.push_str("\n")?;
+    Ok(())
+}
+
+/// Writes how many operations there are, and how they ended.
+#[tactic(auto, unfolding(crate::specs::Ends::counts_text))]
+pub(crate) fn put_counts(text: &mut String, operations: &[OpRecord]) -> Result<(), NoMemory>
+    ensures { OnOk result (string_bytes text.new ≡ string_bytes text.old ++ counts_text operations.now) }
 {
     let calls = operations.len();
     let Ends {
@@ -90,8 +101,8 @@ fn put_end_line(text: &mut String, operations: &[OpRecord]) -> Result<(), NoMemo
         gave_up,
         unended,
     } = ends_of(operations);
-    write!(text, "end calls {calls} done {done}")?;
-    writeln!(text, " gaveup {gave_up} open {unended}")?;
+    write!(text, "calls {calls} done {done}")?;
+    write!(text, " gaveup {gave_up} open {unended}")?;
     Ok(())
 }
 

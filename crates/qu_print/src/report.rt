@@ -28,8 +28,8 @@ pub fn report_text(
     Ok(List::from(text.into_bytes()))
 }
 
-/// The points that are told.
-fn told_order<'a>(premises: &Premises, order: &'a [Point]) -> &'a [Point]
+/// The points that are told: none where the premises of their order do not hold.
+pub fn told_order<'a>(premises: &Premises, order: &'a [Point]) -> &'a [Point]
     ensures { result.now ≡ told_order premises.now order.now }
 {
     match premises {

@@ -65,7 +65,7 @@ fn put_points(text: &mut String, event: u64, order: &[Point]) -> Result<(), NoMe
 }
 
 /// Writes the line of one point. That of a faulty client's update tells the update.
-fn put_point(text: &mut String, point: &Point) -> Result<(), NoMemory>
+pub fn put_point(text: &mut String, point: &Point) -> Result<(), NoMemory>
     ensures { OnOk result (string_bytes text.new
         ≡ string_bytes text.old ++ point_line point.now ++ 10 ∷ []) }
 {

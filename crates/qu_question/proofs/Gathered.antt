@@ -2,7 +2,7 @@
 use Rattle.std.proofs.Common.{◌≡◌, ℕ, zero, suc, ◌+◌, ◌-◌, ◌<◌, ◌≤◌, eqb, true, ◌&&◌, IsTrue, not, List, [], ◌∷◌, map, length, Option, None, Some, refl, sym, inl, inr, ap, subst, ◌∙◌, ◌++◌, append_assoc, append-nil, take, arith}
 use Rattle.std.specs.Prelude.{nat_lt, nat_le}
 use Rattle.std.proofs.lemmas.List.{take_all, length-map}
-use Rattle.std.proofs.lemmas.Bool.{cases_Bool, and_from, and_parts, false≢true, eq-eqb, eqb-true, le-leb, lt-ltb}
+use Rattle.std.proofs.lemmas.Bool.{cases_Bool, and_from, and_parts, eq-eqb, eqb-true, le-leb, lt-ltb}
 use Rattle.qu_base.specs.declared.limits.TheConstants.{OBJECT_IDS, REPLICA_IDS}
 use Rattle.qu_base.specs.declared.party.ObjectId.{ObjectId}
 use Rattle.qu_base.specs.Bounds.{replicas}
@@ -10,10 +10,12 @@ use Rattle.qu_history.specs.declared.limits.TheConstants.{OBJECTS_LIMIT}
 use Rattle.qu_history.specs.declared.sets.SetOf.{SetOf}
 use Rattle.qu_history.specs.declared.sealed.Sealed.{Sealed}
 use Rattle.qu_history.specs.Sets.{histories, are_entries, are_sets_from, are_sets}
-use Rattle.qu_objects.specs.Parts.{are_parts}
+use Rattle.qu_objects.specs.declared.limits.TheConstants.{MOST_PARTS}
+use Rattle.qu_objects.specs.Parts.{are_objects_from, are_parts}
+use Rattle.qu_objects.proofs.PartLaws.{parts_are}
 use Rattle.qu_question.specs.declared.kept.Kept.{Kept}
 use Rattle.qu_question.specs.Kept.{is_left_out, kept_of}
-use Rattle.qu_question.specs.Named.{are_objects_from, are_objects}
+use Rattle.qu_question.specs.Named.{are_objects}
 use Rattle.qu_question.specs.Question.{entries_from, set_of}
 
 -- so many are left of a number below another
@@ -151,11 +153,15 @@ are_sets_kept bounds kept objects ordered few =
 -- the objects of an operation's parts
 pub are_objects_of_parts : {X : Type 0} (parts : List (ObjectId × X)) → IsTrue (are_parts parts)
     → IsTrue (are_objects (map (λ part. part.0) parts))
-unfolding are_objects are_objects_from
-are_objects_of_parts [] ordered = absurd (false≢true ordered)
-are_objects_of_parts (part ∷ []) ordered =
-    and_from _ _ refl (and_from _ _ (and_from _ _ (le-leb 0 (part.0).0 (omega arith)) ordered) refl)
-are_objects_of_parts (first ∷ second ∷ parts) ordered = absurd (false≢true ordered)
+unfolding are_objects
+are_objects_of_parts parts ordered =
+    let are = parts_are parts ordered in
+    let size : length (map (λ part. part.0) parts) ≡ length parts = length-map parts (λ part. part.0) in
+    let some : 1 ≤ length parts = are.some in
+    let few : length parts ≤ MOST_PARTS = are.few in
+    let count : ℕ = length (map (λ part. part.0) parts) in
+    and_from _ _ (and_from _ _ (lt-ltb 0 count (omega (arith, size, some)))
+    (le-leb count OBJECTS_LIMIT (omega (arith, size, few)))) are.rise
 
 -- so they are never refused
 pub are_sets_made : (bounds : ℕ) (kept : List Kept) (sets : List SetOf) (objects : List ObjectId) (index : ℕ)

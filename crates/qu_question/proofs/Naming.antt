@@ -7,7 +7,8 @@ use Rattle.qu_base.specs.declared.limits.TheConstants.{OBJECT_IDS}
 use Rattle.qu_base.specs.declared.party.ObjectId.{ObjectId}
 use Rattle.qu_history.specs.declared.limits.TheConstants.{OBJECTS_LIMIT}
 use Rattle.qu_objects.specs.Formats.{is_one_of}
-use Rattle.qu_question.specs.Named.{are_objects_from, are_objects, among, with_named}
+use Rattle.qu_objects.specs.Parts.{are_objects_from}
+use Rattle.qu_question.specs.Named.{are_objects, among, with_named}
 
 abbrev below : ObjectId → ObjectId → Bool
 below object other = nat_lt other.0 object.0

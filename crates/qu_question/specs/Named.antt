@@ -1,22 +1,17 @@
 -- The objects that are named in an operation: those that it is on, and those that were added since a class or the
 -- replicas needed them (Query/Update: the objects of a client's sets).
-use Rattle.std.specs.Prelude.{ℕ, Bool, true, ◌+◌, ◌&&◌, nat_lt, nat_le, if◌then◌else◌, List, [], ◌∷◌, ◌++◌, filter, length, map}
+use Rattle.std.specs.Prelude.{Bool, ◌&&◌, nat_lt, nat_le, if◌then◌else◌, List, [], ◌∷◌, ◌++◌, filter, length, map}
 use Rattle.qu_base.specs.declared.limits.TheConstants.{OBJECT_IDS}
 use Rattle.qu_base.specs.declared.party.ObjectId.{ObjectId}
 use Rattle.qu_history.specs.declared.limits.TheConstants.{OBJECTS_LIMIT}
 use Rattle.qu_objects.specs.declared.op.Op.{Op}
 use Rattle.qu_objects.specs.declared.op.Op.TheVariants as op
+use Rattle.qu_objects.specs.Parts.{are_objects_from}
 
 -- the objects that an operation is on
 abbrev pub operation_objects : Op → List ObjectId
 operation_objects (op.Act parts) = map (λ part. part.0) parts
 operation_objects (op.Query parts) = map (λ part. part.0) parts
-
--- objects that have a number, and rise from this number on
-unfoldable pub are_objects_from : ℕ → List ObjectId → Bool
-are_objects_from least [] = true
-are_objects_from least (object ∷ later) =
-    nat_le least object.0 && nat_lt object.0 OBJECT_IDS && are_objects_from (object.0 + 1) later
 
 -- one object or more, and at most as many as one set may have
 unfoldable pub are_objects : List ObjectId → Bool

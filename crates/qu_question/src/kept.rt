@@ -65,7 +65,7 @@ impl Kept {
         self.number < other.number || self.number == other.number && self.round < other.round
     }
 
-    /// The same history of the same answer, which is not copied.
+    /// This history with its answer, held once more and not copied.
     pub fn share(&self) -> Result<Kept, NoMemory>
         ensures { IfOk result (λ kept. kept ≡ self.now) }
     {

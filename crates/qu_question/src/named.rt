@@ -42,7 +42,7 @@ impl Named {
         self.objects.as_slice()
     }
 
-    /// The same objects.
+    /// A copy of these objects.
     pub fn copy(&self, alloc: Global) -> Result<Named, NoMemory>
         ensures { IfOk result (λ named. named ≡ self.now) }
     {
@@ -51,7 +51,7 @@ impl Named {
         })
     }
 
-    /// The same objects and this one, while fewer than eight are named.
+    /// These objects and this one, while fewer than eight are named.
     #[tactic(auto, unfolding(crate::specs::Named::with_named), using(crate::proofs::Naming::among_are))]
     pub fn with(&self, alloc: Global, object: ObjectId) -> Result<Named, NoMemory>
         ensures { IfOk result (λ named. named ≡ with_named object self.now) }

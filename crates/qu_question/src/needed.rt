@@ -23,7 +23,7 @@ pub fn named_for(
     named_within(alloc, more, bounds, round, kept, named)
 }
 
-/// The same, where the building starts again so many times at most.
+/// The objects that are named, where the building starts again so many times at most.
 fn named_within(
     alloc: Global,
     more: usize,

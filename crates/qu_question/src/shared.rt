@@ -30,7 +30,7 @@ impl<T: Drop> Shared<T> {
 }
 
 impl<T> Shared<T> {
-    /// The same item.
+    /// The item, held once more.
     pub fn share(&self) -> Result<Shared<T>, NoMemory>
         ensures { IfOk result (λ shared. shared ≡ self.now) }
     {

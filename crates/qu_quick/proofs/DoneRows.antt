@@ -32,7 +32,7 @@ use Rattle.qu_mends.specs.declared.accepted.Accepted.{Accepted}
 use Rattle.qu_rows.specs.declared.decision.Decision.{Decision}
 use Rattle.qu_rows.specs.declared.decision.Decision.TheVariants.{Answers, Waits}
 use Rattle.qu_rows.specs.State.{ReplicaState, own_candidates, own_latest}
-use Rattle.qu_rows.specs.Rows.{Asked, asked_of, asked_at, refuse, shown_of, method_base, base_version, base_stamps, missing_of, class_told, fresh_stamp, fresh_stamps, fresh_versions, standing_in, done_again, is_held, repeated, row_unknown, row_thin, row_retry, row_current, row_method, row_version, row_kept, row_time, row_full, row_done, decide_act, decision_on}
+use Rattle.qu_rows.specs.Rows.{Asked, asked_of, asked_at, refuse, shown_of, method_base, base_version, base_stamps, missing_of, class_told, fresh_stamp, fresh_group, fresh_stamps, fresh_versions, standing_in, done_again, is_held, repeated, row_unknown, row_thin, row_retry, row_current, row_method, row_version, row_kept, row_time, row_full, row_done, decide_act, decision_on}
 use Rattle.qu_fitting.proofs.CarriedEach.{AreBases, AreBefores, accepted_each, fresh_upon, fresh_candidates, versions_made, versions_each, done_each}
 use Rattle.qu_mends.specs.Table.{first_given}
 use Rattle.qu_frames.specs.declared.frame.Body.TheVariants as body
@@ -112,7 +112,7 @@ module _ (state : ReplicaState) (client : ClientId) (number : ℕ) (sets : List 
   shown object = shown_of asked object
 
   abbrev fresh : ObjectId → Candidate
-  fresh = fresh_candidates state asked bases versions
+  fresh = fresh_candidates state asked bases versions objects
 
   each : (P : ObjectId → Type 0) → ((object : ObjectId) → Names parts object → P object) → AllByRecursion P objects
   each P gives = all_named P parts gives
@@ -165,10 +165,10 @@ module _ (state : ReplicaState) (client : ClientId) (number : ℕ) (sets : List 
       absurd (false≢true (sym (is_below-self (fresh object).stamp)
       ∙ fresh_above state asked object (is_current object names) (fresh object) is))
 
-  held_none : (object : ObjectId) → Names parts object → is_held state asked object ≡ false
+  held_none : (object : ObjectId) → Names parts object → is_held state asked (fresh_group asked objects) object ≡ false
   unfolding is_held
   held_none object names =
-      ap (λ (found : Option Candidate). elim (option_map (fresh_upon asked object) found) [
+      ap (λ (found : Option Candidate). elim (option_map (fresh_upon asked (fresh_group asked objects) object) found) [
         | None ↦ false
         | Some made ↦ holds made (own_candidates state object)
       ]) (ready.each object names).method
@@ -180,7 +180,7 @@ module _ (state : ReplicaState) (client : ClientId) (number : ℕ) (sets : List 
       ap (λ (test : Bool). cond test
       (done_again (fresh_stamps state asked objects) (standing_in asked parts (fresh_versions state asked objects)))
       None)
-      (not_all (is_held state asked) parts (some_part parts fits) held_none)
+      (not_all (is_held state asked (fresh_group asked objects)) parts (some_part parts fits) held_none)
 
   current : row_current state asked objects ≡ None
   unfolding row_current

@@ -58,6 +58,7 @@ fn mend(remedy: Remedy, latest: u64) -> Mend {
         },
         remedy,
         group: Group::none(),
+        made: Group::none(),
     }
 }
 

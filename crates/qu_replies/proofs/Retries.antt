@@ -30,7 +30,7 @@ use Rattle.qu_rows.specs.declared.decision.Decision.{Decision}
 use Rattle.qu_rows.specs.declared.decision.Decision.TheVariants.{Answers, Waits}
 use Rattle.qu_rows.specs.Allowed.{MayAcceptAll}
 use Rattle.qu_rows.specs.State.{ReplicaState, own_candidates}
-use Rattle.qu_rows.specs.Rows.{Asked, method_base, fresh_stamp, fresh_stamps, fresh_versions, is_held, standing_in, done_again, row_retry}
+use Rattle.qu_rows.specs.Rows.{Asked, method_base, fresh_stamp, fresh_group, fresh_stamps, fresh_versions, is_held, standing_in, done_again, row_retry}
 use Rattle.qu_rows.proofs.Held.{is_held_by}
 use Rattle.qu_fitting.specs.Holding.{stored_all, accept_all}
 use Rattle.qu_fitting.proofs.CarriedEach.{fresh_upon, with_stamps, AreBases, fresh_each}
@@ -97,6 +97,13 @@ module _ (state : ReplicaState) (asked : Asked) (parts : List (ObjectId × Metho
   abbrev objects : List ObjectId
   objects = objects_named parts
 
+  -- the candidate that the act would make of the object
+  abbrev fresh_on : ObjectId → Candidate
+  fresh_on object = fresh_upon asked (fresh_group asked objects) object (base_of state asked object)
+
+  abbrev is_held_on : ObjectId → Bool
+  is_held_on object = is_held state asked (fresh_group asked objects) object
+
   pub many : (make : ObjectId → ObjState) → length (map make objects) ≡ length parts
   many make = length-map objects make ∙ length-map parts (λ part. part.0)
 
@@ -113,29 +120,30 @@ module _ (state : ReplicaState) (asked : Asked) (parts : List (ObjectId × Metho
   -- what the act would make of the object is held
   abbrev IsHeld : ObjectId → Type 0
   IsHeld object = (method_base state asked object ≡ Some (base_of state asked object))
-      × (holds (fresh_upon asked object (base_of state asked object)) (own_candidates state object) ≡ true)
+      × (holds (fresh_on object) (own_candidates state object) ≡ true)
 
   held_by : (object : ObjectId) (found : Option Candidate)
-      → is_held_by state object (option_map (fresh_upon asked object) found) ≡ true
+      → is_held_by state object (option_map (fresh_upon asked (fresh_group asked objects) object) found) ≡ true
       → (found ≡ Some (unwrap_or found opening))
-      × (holds (fresh_upon asked object (unwrap_or found opening)) (own_candidates state object) ≡ true)
+      × (holds (fresh_upon asked (fresh_group asked objects) object (unwrap_or found opening))
+      (own_candidates state object) ≡ true)
   held_by object None holding = absurd (false≢true holding)
   held_by object (Some base) holding = (refl, holding)
 
-  held_so : (object : ObjectId) → is_held state asked object ≡ true → IsHeld object
+  held_so : (object : ObjectId) → is_held_on object ≡ true → IsHeld object
   unfolding is_held
   held_so object holding = held_by object (method_base state asked object) holding
 
-  held_each : (some : List ObjectId) → list_all (is_held state asked) some ≡ true → AllByRecursion IsHeld some
+  held_each : (some : List ObjectId) → list_all is_held_on some ≡ true → AllByRecursion IsHeld some
   held_each [] all = tt
   held_each (object ∷ later) all =
-      let both = and_parts (is_held state asked object) (list_all (is_held state asked) later) all in
+      let both = and_parts (is_held_on object) (list_all is_held_on later) all in
       (held_so object both.0, held_each later both.1)
 
   -- the version of a candidate that is held
   abbrev version_held : HasVersions state → (object : ObjectId) → IsHeld object
       → (version : ObjState) × (version_at object (fresh_stamp asked object) state.versions ≡ Some version)
-  version_held has object held = has object (fresh_upon asked object (base_of state asked object)) refl held.1
+  version_held has object held = has object (fresh_on object) refl held.1
 
   abbrev version_then : ObjectId → ObjState
   version_then object = unwrap_or (version_at object (fresh_stamp asked object) state.versions) (before_of state asked
@@ -146,7 +154,7 @@ module _ (state : ReplicaState) (asked : Asked) (parts : List (ObjectId × Metho
 
   stored_so : HasVersions state → (object : ObjectId) → IsHeld object → IsStored object
   stored_so has object held =
-      let it = has object (fresh_upon asked object (base_of state asked object)) refl held.1 in
+      let it = has object (fresh_on object) refl held.1 in
       it.1 ∙ ap (λ (found : Option ObjState). Some (unwrap_or found (before_of state asked object))) (sym it.1)
 
   -- the candidate with its version, which keeps the act
@@ -154,7 +162,7 @@ module _ (state : ReplicaState) (asked : Asked) (parts : List (ObjectId × Metho
       → Keeps asked.client asked.number act kept (version_then object)
       → HasDone state asked.client asked.number act kept (object, fresh_stamp asked object)
   done_held object kept held keeps = record {
-    candidate = fresh_upon asked object (base_of state asked object);
+    candidate = fresh_on object;
     is_told = refl;
     held = (held.0).1;
     of_client = refl;
@@ -164,7 +172,7 @@ module _ (state : ReplicaState) (asked : Asked) (parts : List (ObjectId × Metho
     keeps = keeps;
   }
 
-  module _ (has : HasVersions state) (all : list_all (is_held state asked) objects ≡ true) where
+  module _ (has : HasVersions state) (all : list_all is_held_on objects ≡ true) where
     abbrev IsThere : ObjectId → Type 0
     IsThere object = IsHeld object × IsStored object
 
@@ -241,7 +249,7 @@ module _ (state : ReplicaState) (asked : Asked) (parts : List (ObjectId × Metho
         ∙ given)
 
   -- the row of retries gives Done alone
-  again_tells : (all : list_all (is_held state asked) objects ≡ true) (standing : Standing)
+  again_tells : (all : list_all is_held_on objects ≡ true) (standing : Standing)
       → standing_in asked parts (fresh_versions state asked objects) ≡ standing → (decision : Decision)
       → done_again (fresh_stamps state asked objects) standing ≡ Some decision → ActTells state asked act parts decision
   again_tells all Fresh stands decision given = absurd (none-some decision given)
@@ -253,9 +261,9 @@ module _ (state : ReplicaState) (asked : Asked) (parts : List (ObjectId × Metho
 
   pub retry_tells : Gives (ActTells state asked act parts) (row_retry state asked parts objects)
   unfolding row_retry
-  retry_tells = by (list_all (is_held state asked) objects) refl
+  retry_tells = by (list_all is_held_on objects) refl
     where
-      by : (test : Bool) → list_all (is_held state asked) objects ≡ test
+      by : (test : Bool) → list_all is_held_on objects ≡ test
           → Gives (ActTells state asked act parts) (cond test
           (done_again (fresh_stamps state asked objects)
           (standing_in asked parts (fresh_versions state asked objects))) None)

@@ -1,5 +1,5 @@
 -- What an act makes a replica accept, one object after the other.
-use Rattle.std.proofs.Common.{◌≡◌, List, [], ◌∷◌, ◌++◌, Option, None, Some, refl}
+use Rattle.std.proofs.Common.{◌≡◌, ℕ, List, [], ◌∷◌, ◌++◌, Option, None, Some, refl}
 use Rattle.qu_base.specs.declared.party.ObjectId.{ObjectId}
 use Rattle.qu_stamp.specs.declared.candidate.Candidate.{Candidate}
 use Rattle.qu_objects.specs.declared.state.ObjState.{ObjState}
@@ -11,21 +11,20 @@ abbrev pub accepted_of : ObjectId → Option Candidate → ObjState → List Acc
 accepted_of object None version = []
 accepted_of object (Some fresh) version = record { object = object; candidate = fresh; state = Some version } ∷ []
 
-pub accepted_cons : (state : ReplicaState) (asked : Asked) (object : ObjectId) (version : ObjState)
-    (made : Option Candidate) (objects : List ObjectId) (versions : List ObjState) → fresh_act state asked object ≡ made
-    → accepted_by state asked (object ∷ objects) (version ∷ versions)
-    ≡ accepted_of object made version ++ accepted_by state asked objects versions
-unfolding accepted_by
-accepted_cons state asked object version None objects versions is = rw (is, accepted_by) refl
-accepted_cons state asked object version (Some fresh) objects versions is = rw (is, accepted_by) refl
+module _ (state : ReplicaState) (asked : Asked) (group : List (ObjectId × ℕ)) where
+  pub accepted_cons : (object : ObjectId) (version : ObjState) (made : Option Candidate) (objects : List ObjectId)
+      (versions : List ObjState) → fresh_act state asked group object ≡ made
+      → accepted_by state asked group (object ∷ objects) (version ∷ versions)
+      ≡ accepted_of object made version ++ accepted_by state asked group objects versions
+  unfolding accepted_by
+  accepted_cons object version None objects versions is = rw (is, accepted_by) refl
+  accepted_cons object version (Some fresh) objects versions is = rw (is, accepted_by) refl
 
-pub accepted_none : (state : ReplicaState) (asked : Asked) (objects : List ObjectId)
-    → accepted_by state asked objects [] ≡ []
-unfolding accepted_by
-accepted_none state asked [] = refl
-accepted_none state asked (object ∷ objects) = refl
+  pub accepted_none : (objects : List ObjectId) → accepted_by state asked group objects [] ≡ []
+  unfolding accepted_by
+  accepted_none [] = refl
+  accepted_none (object ∷ objects) = refl
 
-pub accepted_empty : (state : ReplicaState) (asked : Asked) (states : List ObjState)
-    → accepted_by state asked [] states ≡ []
-unfolding accepted_by
-accepted_empty state asked states = refl
+  pub accepted_empty : (states : List ObjState) → accepted_by state asked group [] states ≡ []
+  unfolding accepted_by
+  accepted_empty states = refl

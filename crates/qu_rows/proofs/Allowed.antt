@@ -34,7 +34,7 @@ use Rattle.qu_mends.specs.declared.accepted.Accepted.{Accepted}
 use Rattle.qu_rows.specs.declared.decision.Decision.{Decision}
 use Rattle.qu_rows.specs.declared.decision.Decision.TheVariants.{Answers, Waits}
 use Rattle.qu_rows.specs.State.{ReplicaState, own_candidates, own_latest}
-use Rattle.qu_rows.specs.Rows.{Asked, refuse, refuse_first, objects_of, method_base, shown_of, fresh_stamp, fresh_act, accepted_by, done_again, repeated, row_unknown, row_thin, row_retry, row_current, row_method, row_version, row_kept, row_time, row_full, row_done, row_told, row_few, mending_on, decision_by, decide_act, decide_ask, decide_repair, decision_on}
+use Rattle.qu_rows.specs.Rows.{Asked, refuse, refuse_first, objects_of, method_base, shown_of, fresh_stamp, fresh_group, fresh_act, accepted_by, done_again, repeated, row_unknown, row_thin, row_retry, row_current, row_method, row_version, row_kept, row_time, row_full, row_done, row_told, row_few, mending_on, decision_by, decide_act, decide_ask, decide_repair, decision_on}
 use Rattle.qu_mends.specs.Table.{first_given, has_no_room}
 use Rattle.qu_rows.specs.Allowed.{MayAccept, MayAcceptAll, MayDecide, has_parts}
 use Rattle.qu_rows.proofs.Accepting.{accepted_of, accepted_cons, accepted_none, accepted_empty}
@@ -166,11 +166,12 @@ told-may : (state : ReplicaState) (asked : Asked) (parts : List (ObjectId × Ask
 unfolding row_told
 told-may state asked parts objects decision given = subst (MayDecide state) (same_Some _ decision given) tt
 
-made_of : (asked : Asked) (object : ObjectId) (base : Option Candidate) (fresh : Candidate)
-    → option_map (λ (it : Candidate). record { stamp = fresh_stamp asked object; prior = it.stamp; group = [] }) base
+made_of : (asked : Asked) (group : List (ObjectId × ℕ)) (object : ObjectId) (base : Option Candidate)
+    (fresh : Candidate)
+    → option_map (λ (it : Candidate). record { stamp = fresh_stamp asked object; prior = it.stamp; group = group }) base
     ≡ Some fresh → (base ≡ None → ⊥) × (fresh.stamp ≡ fresh_stamp asked object)
-made_of asked object None fresh made = absurd (none-some fresh made)
-made_of asked object (Some it) fresh made =
+made_of asked group object None fresh made = absurd (none-some fresh made)
+made_of asked group object (Some it) fresh made =
     ((λ none. none-some it (sym none)), sym (ap (λ (candidate : Candidate). candidate.stamp) (same_Some _ _ made)))
 
 in_time_of : (latest fresh : Stamp) → fresh.time ≡ latest.time + 1 → latest.time < LAST_TIME → fresh.time ≤ LAST_TIME
@@ -181,16 +182,16 @@ unmapped f None none = refl
 unmapped f (Some it) none = absurd (none-some (f it) (sym none))
 
 -- the fresh candidate of an object that no row refused
-may_accept_fresh : (state : ReplicaState) (asked : Asked) (object : ObjectId)
+may_accept_fresh : (state : ReplicaState) (asked : Asked) (group : List (ObjectId × ℕ)) (object : ObjectId)
     → find (λ (set : SetOf). nat_le (length state.histories) (set.object).0) asked.sets ≡ None
     → is_below (latest_of (shown_of asked object)) (own_latest state object) ≡ false
     → nat_le LAST_TIME (latest_of (shown_of asked object)).time ≡ false
     → nat_le HISTORY_LIMIT (length (own_candidates state object)) ≡ false
-    → (fresh : Candidate) → fresh_act state asked object ≡ Some fresh → (version : ObjState)
+    → (fresh : Candidate) → fresh_act state asked group object ≡ Some fresh → (version : ObjState)
     → MayAccept state (record { object = object; candidate = fresh; state = Some version })
-may_accept_fresh state asked object known current in_time room fresh made version =
+may_accept_fresh state asked group object known current in_time room fresh made version =
     let parts : (method_base state asked object ≡ None → ⊥) × (fresh.stamp ≡ fresh_stamp asked object) =
-    made_of asked object (method_base state asked object) fresh made in
+    made_of asked group object (method_base state asked object) fresh made in
     let next : fresh.stamp.time ≡ (latest_of (shown_of asked object)).time + 1 =
     ap (λ (stamp : Stamp). stamp.time) parts.1 in
     record {
@@ -212,18 +213,18 @@ made_apart this object version None later other so_far = so_far
 made_apart this object version (Some fresh) later other so_far = (other, so_far)
 
 -- an act on other objects makes it accept candidates of other objects
-accepted_apart : (state : ReplicaState) (asked : Asked) (this : ObjectId) (objects : List ObjectId)
-    (versions : List ObjState) → AllByRecursion (λ object. object ≡ this → ⊥) objects
-    → AreApart this (accepted_by state asked objects versions)
-accepted_apart state asked this [] versions others =
-    subst (AreApart this) (sym (accepted_empty state asked versions)) tt
-accepted_apart state asked this (object ∷ objects) [] others =
-    subst (AreApart this) (sym (accepted_none state asked (object ∷ objects))) tt
-accepted_apart state asked this (object ∷ objects) (version ∷ versions) others =
-    subst (AreApart this)
-    (sym (accepted_cons state asked object version (fresh_act state asked object) objects versions refl))
-    (made_apart this object version (fresh_act state asked object) (accepted_by state asked objects versions) others.0
-    (accepted_apart state asked this objects versions others.1))
+accepted_apart : (state : ReplicaState) (asked : Asked) (group : List (ObjectId × ℕ)) (this : ObjectId)
+    (objects : List ObjectId) (versions : List ObjState) → AllByRecursion (λ object. object ≡ this → ⊥) objects
+    → AreApart this (accepted_by state asked group objects versions)
+accepted_apart state asked group this [] versions others =
+    subst (AreApart this) (sym (accepted_empty state asked group versions)) tt
+accepted_apart state asked group this (object ∷ objects) [] others =
+    subst (AreApart this) (sym (accepted_none state asked group (object ∷ objects))) tt
+accepted_apart state asked group this (object ∷ objects) (version ∷ versions) others =
+    let made : Option Candidate = fresh_act state asked group object in
+    subst (AreApart this) (sym (accepted_cons state asked group object version made objects versions refl))
+    (made_apart this object version made (accepted_by state asked group objects versions) others.0
+    (accepted_apart state asked group this objects versions others.1))
 
 made_each : (state : ReplicaState) (object : ObjectId) (version : ObjState) (made : Option Candidate)
     (later : List Accepted)
@@ -235,24 +236,24 @@ made_each state object version None later may apart so_far = so_far
 made_each state object version (Some fresh) later may apart so_far = (may fresh refl, apart, so_far)
 
 -- what an act makes may be accepted
-accepted_may : (state : ReplicaState) (asked : Asked) (objects : List ObjectId) (versions : List ObjState)
-    → AreDistinct objects
+accepted_may : (state : ReplicaState) (asked : Asked) (group : List (ObjectId × ℕ)) (objects : List ObjectId)
+    (versions : List ObjState) → AreDistinct objects
     → find (λ (set : SetOf). nat_le (length state.histories) (set.object).0) asked.sets ≡ None
     → AllByRecursion (λ object. is_below (latest_of (shown_of asked object)) (own_latest state object) ≡ false) objects
     → AllByRecursion (λ object. nat_le LAST_TIME (latest_of (shown_of asked object)).time ≡ false) objects
     → AllByRecursion (λ object. has_no_room (own_candidates state object) ≡ false) objects
-    → MayAcceptAll state (accepted_by state asked objects versions)
-accepted_may state asked [] versions apart known current in_time room =
-    subst (MayAcceptAll state) (sym (accepted_empty state asked versions)) tt
-accepted_may state asked (object ∷ objects) [] apart known current in_time room =
-    subst (MayAcceptAll state) (sym (accepted_none state asked (object ∷ objects))) tt
-accepted_may state asked (object ∷ objects) (version ∷ versions) apart known current in_time room =
-    subst (MayAcceptAll state)
-    (sym (accepted_cons state asked object version (fresh_act state asked object) objects versions refl))
-    (made_each state object version (fresh_act state asked object) (accepted_by state asked objects versions)
-    (λ fresh made. may_accept_fresh state asked object known current.0 in_time.0 room.0 fresh made version)
-    (accepted_apart state asked object objects versions apart.0)
-    (accepted_may state asked objects versions apart.1 known current.1 in_time.1 room.1))
+    → MayAcceptAll state (accepted_by state asked group objects versions)
+accepted_may state asked group [] versions apart known current in_time room =
+    subst (MayAcceptAll state) (sym (accepted_empty state asked group versions)) tt
+accepted_may state asked group (object ∷ objects) [] apart known current in_time room =
+    subst (MayAcceptAll state) (sym (accepted_none state asked group (object ∷ objects))) tt
+accepted_may state asked group (object ∷ objects) (version ∷ versions) apart known current in_time room =
+    let fresh_one : Option Candidate = fresh_act state asked group object in
+    subst (MayAcceptAll state) (sym (accepted_cons state asked group object version fresh_one objects versions refl))
+    (made_each state object version fresh_one (accepted_by state asked group objects versions)
+    (λ fresh made. may_accept_fresh state asked group object known current.0 in_time.0 room.0 fresh made version)
+    (accepted_apart state asked group object objects versions apart.0)
+    (accepted_may state asked group objects versions apart.1 known current.1 in_time.1 room.1))
 
 -- where none is refused, none is bad
 pub none_refused : (bad : ObjectId → Bool) (why : ObjectId → Refusal) (objects : List ObjectId)
@@ -285,7 +286,7 @@ done : (state : ReplicaState) (asked : Asked) (parts : List (ObjectId × Method)
 unfolding row_current row_time row_full row_done
 done state asked parts objects apart unknown current time full decision given =
     subst (MayDecide state) (same_Some _ decision given)
-    (accepted_may state asked objects _ apart (no_unknown state asked unknown)
+    (accepted_may state asked (fresh_group asked objects) objects _ apart (no_unknown state asked unknown)
     (none_refused _ (λ it. NotCurrent it (own_latest state it)) objects current)
     (none_refused _ TimeSpent objects time) (none_refused _ HistoryFull objects full))
 

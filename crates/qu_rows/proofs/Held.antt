@@ -1,7 +1,9 @@
 -- A candidate with a time after the last is not held.
-use Rattle.std.proofs.Common.{[], ◌≡◌, ◌+◌, ◌≤◌, Bool, true, false, List, Option, None, Some, refl, sym, ◌∙◌, arith, inl, inr}
-use Rattle.std.specs.Prelude.{slice_get, option_map}
-use Rattle.std.proofs.lemmas.Bool.{cases_Bool, cases_lt, false≢true}
+use Rattle.std.proofs.Common.{ℕ, [], ◌∷◌, ◌≡◌, ◌+◌, ◌&&◌, cond, ap, ◌≤◌, Bool, true, false, List, Option, None, Some, refl, sym, ◌∙◌, arith, inl, inr}
+use Rattle.std.specs.Prelude.{find, nat_le, slice_get, is_some, option_map}
+use Rattle.std.specs.List.{list_all}
+use Rattle.std.proofs.lemmas.Bool.{and_left, cases_Bool, cases_lt, false≢true, leb-true}
+use Rattle.std.proofs.lemmas.Option.{none-some}
 use Rattle.qu_base.specs.declared.party.ObjectId.{ObjectId}
 use Rattle.qu_stamp.specs.declared.limits.TheConstants.{LAST_TIME}
 use Rattle.qu_stamp.specs.declared.candidate.Candidate.{Candidate}
@@ -12,7 +14,7 @@ use Rattle.qu_rows.specs.State.{ReplicaState, own_candidates}
 use Rattle.qu_mends.specs.Table.{candidates_in}
 use Rattle.qu_mends.specs.declared.seen.Seen.{Seen}
 use Rattle.qu_rows.specs.Rows.{Asked}
-use Rattle.qu_rows.specs.SeenRows.{stamp_seen, held_on}
+use Rattle.qu_rows.specs.SeenRows.{stamp_seen, held_on, group_seen, fresh_keys, held_keys}
 use Rattle.qu_rows.specs.State.{AreHistories}
 use Rattle.qu_rows.proofs.Own.{own_history}
 
@@ -37,12 +39,12 @@ own_in_time state object held own is_held =
           (own_history state object.0 history own is_history).in_time holds_it
     ] refl is_held
 
-fresh_not_held : (state : ReplicaState) (asked : Asked) (one : Seen) (base : Candidate)
-    → AreHistories state → LAST_TIME ≤ one.latest.time
-    → holds (record { stamp = stamp_seen asked one; prior = base.stamp; group = [] }) (own_candidates state one.object)
-    ≡ false
-fresh_not_held state asked one base own spent =
-    let fresh : Candidate = record { stamp = stamp_seen asked one; prior = base.stamp; group = [] } in
+fresh_not_held : (state : ReplicaState) (asked : Asked) (group : List (ObjectId × ℕ)) (one : Seen)
+    (base : Candidate) → AreHistories state → LAST_TIME ≤ one.latest.time
+    → holds (record { stamp = stamp_seen asked one; prior = base.stamp; group = group })
+    (own_candidates state one.object) ≡ false
+fresh_not_held state asked group one base own spent =
+    let fresh : Candidate = record { stamp = stamp_seen asked one; prior = base.stamp; group = group } in
     elim (cases_Bool (holds fresh (own_candidates state one.object))) [
       | inl is_held ↦
           let in_time : one.latest.time + 1 ≤ LAST_TIME = own_in_time state one.object fresh own is_held in
@@ -54,17 +56,50 @@ abbrev pub is_held_by : ReplicaState → ObjectId → Option Candidate → Bool
 is_held_by state object None = false
 is_held_by state object (Some fresh) = holds fresh (own_candidates state object)
 
+and_false : (test : Bool) → (test && false) ≡ false
+and_false true = refl
+and_false false = refl
+
 -- so a replica holds no fresh candidate of an object whose time is spent
-pub spent_not_held : (state : ReplicaState) (asked : Asked) (one : Seen) → AreHistories state
-    → LAST_TIME ≤ one.latest.time → held_on state asked one ≡ false
+spent_not_held : (state : ReplicaState) (asked : Asked) (group : List (ObjectId × ℕ)) (one : Seen)
+    → AreHistories state → LAST_TIME ≤ one.latest.time → held_on state asked group one ≡ false
 unfolding held_on
-spent_not_held state asked one own spent =
+spent_not_held state asked group one own spent =
     elim (one.method) as (λ (base : Option Candidate). is_held_by state one.object
     (option_map (λ (it : Candidate). let fresh : Candidate = record {
       stamp = stamp_seen asked one;
       prior = it.stamp;
-      group = [];
+      group = group;
     } in fresh) base) ≡ false) [
       | None ↦ refl
-      | Some base ↦ fresh_not_held state asked one base own spent
+      | Some base ↦ fresh_not_held state asked group one base own spent
     ]
+
+-- and where one of some objects is such, it does not hold those of all
+not_all_held : (state : ReplicaState) (asked : Asked) (group : List (ObjectId × ℕ)) (seen : List Seen) (spent : Seen)
+    → AreHistories state → find (λ (one : Seen). nat_le LAST_TIME one.latest.time) seen ≡ Some spent
+    → list_all (held_on state asked group) seen ≡ false
+not_all_held state asked group [] spent own found = absurd (none-some spent found)
+not_all_held state asked group (one ∷ later) spent own found =
+    by (nat_le LAST_TIME one.latest.time) refl found (not_all_held state asked group later spent own)
+  where
+    by : (test : Bool) → nat_le LAST_TIME one.latest.time ≡ test
+        → cond test (Some one) (find (λ (it : Seen). nat_le LAST_TIME it.latest.time) later) ≡ Some spent
+        → (find (λ (it : Seen). nat_le LAST_TIME it.latest.time) later ≡ Some spent
+        → list_all (held_on state asked group) later ≡ false)
+        → (held_on state asked group one && list_all (held_on state asked group) later) ≡ false
+    by true is here so_far = and_left _ _ (spent_not_held state asked group one own (leb-true _ _ is))
+    by false is there so_far =
+        ap (λ (all : Bool). held_on state asked group one && all) (so_far there) ∙ and_false _
+
+pub none_held : (state : ReplicaState) (asked : Asked) (seen : List Seen) → AreHistories state
+    → is_some (find (λ (one : Seen). nat_le LAST_TIME one.latest.time) seen) ≡ true
+    → held_keys state asked seen ≡ None
+none_held state asked seen own found = by (find (λ (one : Seen). nat_le LAST_TIME one.latest.time) seen) refl found
+  where
+    by : (spent : Option Seen) → find (λ (one : Seen). nat_le LAST_TIME one.latest.time) seen ≡ spent
+        → is_some spent ≡ true → held_keys state asked seen ≡ None
+    by None none is = absurd (false≢true is)
+    by (Some spent) found is =
+        ap (λ (all : Bool). cond all (Some (fresh_keys asked seen)) None)
+        (not_all_held state asked (group_seen asked seen) seen spent own found)

@@ -1,4 +1,6 @@
 pub mod Own
+pub mod RisingObjects
+pub mod FreshGroups
 pub mod MendedObjects
 pub mod Allowed
 pub mod Held

@@ -22,7 +22,7 @@ use Rattle.qu_mends.specs.declared.remedy.Remedy.TheVariants.{Nothing, Shown, Fr
 use Rattle.qu_mends.specs.declared.mend.Mend.{Mend}
 use Rattle.qu_mends.specs.declared.mending.Mending.{Mending}
 use Rattle.qu_mends.specs.declared.mending.Mending.TheVariants.{Mends, Holds, Refuses, Waits}
-use Rattle.qu_mends.specs.Remedy.{member_remedy, remedies_by, remedies_of}
+use Rattle.qu_mends.specs.Remedy.{base_on, member_remedy, remedies_by, remedies_of}
 use Rattle.qu_mends.specs.Causes.{MakesCandidate, ArePartsOf, ArePartsAdded, HasCause}
 use Rattle.qu_mends.proofs.Members.{AreOthers, DoDiffer, remedies_differ, group_is_whole, group_shown}
 use Rattle.qu_mends.proofs.Decided.{decided_has_cause}
@@ -70,10 +70,13 @@ known_in_sets number (set ∷ later) object none shown =
 
 module _ (state : ReplicaState) (sets : List SetOf) where
   members_known : (bounds : ℕ) → find (λ (set : SetOf). nat_le (length state.histories) (set.object).0) sets ≡ None
-      → (group : List (ObjectId × ℕ)) → AllShown sets group → AreKnown state (map (member_remedy bounds sets) group)
-  members_known bounds none [] shown = tt
-  members_known bounds none (member ∷ later) shown =
-      (known_in_sets (length state.histories) sets member.0 none shown.0, members_known bounds none later shown.1)
+      → (remedy : Remedy) (group : List (ObjectId × ℕ)) → AllShown sets group
+      → AreKnown state (map (member_remedy bounds sets remedy) group)
+  members_known bounds none remedy [] shown = tt
+  members_known bounds none remedy (member ∷ later) shown = (
+    known_in_sets (length state.histories) sets member.0 none shown.0,
+    members_known bounds none remedy later shown.1,
+  )
 
   pub remedies_known : (bounds : ℕ)
       → find (λ (set : SetOf). nat_le (length state.histories) (set.object).0) sets ≡ None
@@ -82,13 +85,13 @@ module _ (state : ReplicaState) (sets : List SetOf) where
   unfolding remedies_by
   remedies_known bounds none target remedy [] shown known = (known, tt)
   remedies_known bounds none target remedy (member ∷ later) shown known =
-      members_known bounds none (member ∷ later) shown
+      members_known bounds none remedy (member ∷ later) shown
 
--- ---- what is mended is mended as the target is, or with what is shown of it
+-- ---- what is mended is mended as the target is
 
 module _ (state : ReplicaState) (asked : Asked) (mend : Mend) where
   members_like : (bounds : ℕ) (group : List (ObjectId × ℕ))
-      → ArePartsOf mend (map (part_of state asked) (map (member_remedy bounds asked.sets) group))
+      → ArePartsOf mend (map (part_of state asked) (map (member_remedy bounds asked.sets mend.remedy) group))
   members_like bounds [] = tt
   members_like bounds (member ∷ later) =
       (inr (object_base bounds (entries_of member.0 asked.sets), refl), members_like bounds later)
@@ -158,10 +161,10 @@ module _ (state : ReplicaState) (asked : Asked) (target : ObjectId) where
   mending_may none known =
       let bounds : ℕ = state.keys.bounds in
       caused_may state asked mend target (remedies_of bounds asked.sets mend)
-      (remedies_differ bounds asked.sets target mend.remedy mend.group
-      (group_is_whole (class_in bounds asked.sets target)))
+      (remedies_differ bounds asked.sets mend.remedy target mend.group
+      (group_is_whole (base_on bounds asked.sets target) (class_in bounds asked.sets target) mend.remedy))
       (remedies_known state asked.sets bounds none target mend.remedy mend.group
-      (group_shown bounds asked.sets target (class_in bounds asked.sets target) refl) known)
+      (group_shown bounds asked.sets target) known)
       (mending_on state asked target) mending_has_cause
 
 -- ---- what the sets show of each

@@ -1,8 +1,9 @@
 -- The rows of an act and of a query are those of what was seen of their objects.
-use Rattle.std.proofs.Common.{◌++◌, sym, ◌≡◌, Bool, true, false, ◌&&◌, ◌||◌, cond, List, [], ◌∷◌, map, Option, None, Some, IfOk, Result, refl, ap, ◌∙◌}
-use Rattle.std.specs.Prelude.{find, is_none, nat_le, option_map, option_and_then, unwrap_or}
+use Rattle.std.proofs.Common.{ℕ, ◌≤◌, ◌++◌, sym, ◌≡◌, Bool, true, false, ◌&&◌, ◌||◌, cond, List, [], ◌∷◌, length, map, Option, None, Some, IfOk, Result, refl, ap, subst, ◌∙◌, arith}
+use Rattle.std.specs.Prelude.{find, is_none, IsTrue, nat_le, option_map, option_and_then, unwrap_or}
 use Rattle.std.specs.List.{list_all, list_any, filter_map, cons_option}
-use Rattle.std.proofs.lemmas.Bool.{false≢true, and_parts}
+use Rattle.std.proofs.lemmas.Bool.{false≢true, and_from, and_parts, le-leb}
+use Rattle.std.proofs.lemmas.List.{length-map}
 use Rattle.std.proofs.lemmas.Result.{IfOk-weaker}
 use Rattle.qu_base.specs.declared.party.ObjectId.{ObjectId}
 use Rattle.qu_stamp.specs.declared.limits.TheConstants.{LAST_TIME}
@@ -12,7 +13,10 @@ use Rattle.qu_stamp.specs.Stamp.{is_below}
 use Rattle.qu_objects.specs.declared.act.Method.{Method}
 use Rattle.qu_objects.specs.declared.query.Ask.{Ask}
 use Rattle.qu_objects.specs.declared.state.ObjState.{ObjState}
+use Rattle.qu_objects.specs.declared.limits.TheConstants.{MOST_PARTS}
+use Rattle.qu_objects.specs.Parts.{are_objects_from, are_parts}
 use Rattle.qu_objects.specs.Performing.{performed_answer, told_answer}
+use Rattle.qu_objects.proofs.PartLaws.{parts_are}
 use Rattle.qu_kept.specs.Performing.{values_of, performed_states}
 use Rattle.qu_versions.specs.Versions.{version_at}
 use Rattle.qu_frames.specs.declared.verdict.ClassCode.TheVariants.{Barrier}
@@ -25,9 +29,8 @@ use Rattle.qu_rows.specs.declared.decision.Decision.{Decision}
 use Rattle.qu_rows.specs.declared.decision.Decision.TheVariants.{Answers, Waits}
 use Rattle.qu_rows.specs.State.{ReplicaState, own_candidates, own_latest}
 use Rattle.qu_mends.specs.Table.{first_given, has_no_room}
-use Rattle.qu_rows.specs.Rows.{Asked, seen_of, class_code, refuse, refuse_first, missing_of, method_base, base_version, base_versions, base_stamps, fresh_stamp, fresh_act, fresh_stamps, fresh_versions, is_held, standing_in, done_again, repeated, accepted_by, row_unknown, row_thin, row_retry, row_current, row_method, row_version, row_kept, row_time, row_full, row_done, row_told, decide_act, decide_ask, objects_of}
-use Rattle.qu_rows.specs.SeenRows.{version_seen, stamp_seen, base_key, fresh_key, held_on, versions_under, base_keys, fresh_keys, again_by, retry_on, current_on, method_on, version_on, kept_by, time_on, full_on, accepted_on, done_by, told_on, act_upon, ask_upon}
-use Rattle.qu_rows.proofs.Carried.{fresh_on-stamp}
+use Rattle.qu_rows.specs.Rows.{Asked, seen_of, class_code, refuse, refuse_first, missing_of, method_base, base_version, base_versions, base_stamps, fresh_stamp, unless_alone, fresh_group, fresh_act, fresh_stamps, fresh_versions, is_held, standing_in, done_again, repeated, accepted_by, row_unknown, row_thin, row_retry, row_current, row_method, row_version, row_kept, row_time, row_full, row_done, row_told, decide_act, decide_ask, objects_of}
+use Rattle.qu_rows.specs.SeenRows.{AreOperated, version_seen, stamp_seen, base_key, fresh_key, held_on, versions_under, base_keys, fresh_keys, group_seen, again_by, retry_on, current_on, method_on, version_on, kept_by, time_on, full_on, accepted_on, done_by, told_on, act_upon, ask_upon}
 use Rattle.qu_rows.proofs.Accepting.{accepted_of, accepted_cons}
 use Rattle.qu_rows.proofs.Held.{is_held_by}
 
@@ -43,11 +46,11 @@ kept_seen : {X : Type 0} (of : ObjectId → Seen) (made : Seen → Option X) (ob
 kept_seen of made [] = refl
 kept_seen of made (object ∷ later) = ap (cons_option (made (of object))) (kept_seen of made later)
 
-stamps_seen : (asked : Asked) (of : ObjectId → Seen) (objects : List ObjectId)
-    → map (stamp_seen asked) (map of objects) ≡ map (λ object. stamp_seen asked (of object)) objects
-stamps_seen asked of [] = refl
-stamps_seen asked of (object ∷ later) =
-    ap (λ (rest : List Stamp). stamp_seen asked (of object) ∷ rest) (stamps_seen asked of later)
+made_seen : {X : Type 0} (of : ObjectId → Seen) (make : Seen → X) (objects : List ObjectId)
+    → map make (map of objects) ≡ map (λ object. make (of object)) objects
+made_seen of make [] = refl
+made_seen {X = X} of make (object ∷ later) =
+    ap (λ (rest : List X). make (of object) ∷ rest) (made_seen of make later)
 
 refused_seen : (of : ObjectId → Seen) (test : Seen → Bool) (why : Seen → Refusal) (objects : List ObjectId)
     → option_map (λ (one : Seen). refuse (why one)) (find test (map of objects))
@@ -65,6 +68,35 @@ parts_seen : {X : Type 0} (of : ObjectId → Seen) (parts : List (ObjectId × X)
     → map (λ (part : ObjectId × X). of part.0) parts ≡ map of (objects_of parts)
 parts_seen of [] = refl
 parts_seen of (part ∷ later) = ap (λ (rest : List Seen). of part.0 ∷ rest) (parts_seen of later)
+
+-- what was seen of the objects of parts is on the same objects
+objects_shown : {X : Type 0} (state : ReplicaState) (asked : Asked) (parts : List (ObjectId × X))
+    → objects_of parts ≡ objects_of (map (λ (one : Seen). (one.object, one))
+    (map (λ (part : ObjectId × X). seen_of state asked part.0) parts))
+objects_shown state asked [] = refl
+objects_shown state asked (part ∷ later) =
+    ap (λ (objects : List ObjectId). part.0 ∷ objects) (objects_shown state asked later)
+
+-- parts on the objects of an operation are those of one
+parts_on_these : {X Y : Type 0} (parts : List (ObjectId × X)) (others : List (ObjectId × Y))
+    → objects_of parts ≡ objects_of others → IsTrue (are_parts parts) → IsTrue (are_parts others)
+parts_on_these parts others same are =
+    let it = parts_are parts are in
+    let many : length others ≡ length parts =
+    sym (length-map others (λ part. part.0)) ∙ ap length (sym same) ∙ length-map parts (λ part. part.0) in
+    let some : 1 ≤ length parts = it.some in
+    let few : length parts ≤ MOST_PARTS = it.few in
+    and_from _ _ (and_from _ _ (le-leb 1 (length others) (omega (arith, many, some)))
+    (le-leb (length others) MOST_PARTS (omega (arith, many, few))))
+    (subst (λ (objects : List ObjectId). IsTrue (are_objects_from 0 objects)) same it.rise)
+
+-- the objects of an operation are seen as such
+pub are_operated : {X : Type 0} (state : ReplicaState) (asked : Asked) (parts : List (ObjectId × X))
+    → IsTrue (are_parts parts) → AreOperated (map (λ (part : ObjectId × X). seen_of state asked part.0) parts)
+are_operated {X = X} state asked parts are =
+    parts_on_these parts
+    (map (λ (one : Seen). (one.object, one)) (map (λ (part : ObjectId × X). seen_of state asked part.0) parts))
+    (objects_shown state asked parts) are
 
 -- ---- the versions
 
@@ -84,41 +116,47 @@ versions_of_bases state asked (object ∷ later) =
     bases_by state object (method_base state asked object) (base_versions state asked later)
     (base_stamps state asked later) (versions_of_bases state asked later)
 
--- what is held was made
-record IsMade (state : ReplicaState) (asked : Asked) (object : ObjectId) : Type 0 where
-  fresh : Candidate
-  is : fresh_act state asked object ≡ Some fresh
+-- what is held was made upon a base
+record IsBased (state : ReplicaState) (asked : Asked) (object : ObjectId) : Type 0 where
+  base : Candidate
+  is : method_base state asked object ≡ Some base
 
-made_by : (state : ReplicaState) (asked : Asked) (object : ObjectId) (made : Option Candidate)
-    → fresh_act state asked object ≡ made → is_held_by state object made ≡ true → IsMade state asked object
-made_by state asked object None is held = absurd (false≢true held)
-made_by state asked object (Some fresh) is held = record { fresh = fresh; is = is }
+based_by : (state : ReplicaState) (asked : Asked) (group : List (ObjectId × ℕ)) (object : ObjectId)
+    (found : Option Candidate) → method_base state asked object ≡ found
+    → is_held_by state object (option_map (λ (it : Candidate). let made : Candidate = record {
+      stamp = fresh_stamp asked object;
+      prior = it.stamp;
+      group = group;
+    } in made) found) ≡ true → IsBased state asked object
+based_by state asked group object None is held = absurd (false≢true held)
+based_by state asked group object (Some base) is held = record { base = base; is = is }
 
-made_of_held : (state : ReplicaState) (asked : Asked) (object : ObjectId) → is_held state asked object ≡ true
-    → IsMade state asked object
+based_of_held : (state : ReplicaState) (asked : Asked) (group : List (ObjectId × ℕ)) (object : ObjectId)
+    → is_held state asked group object ≡ true → IsBased state asked object
 unfolding is_held
-made_of_held state asked object held = made_by state asked object (fresh_act state asked object) refl held
+based_of_held state asked group object held =
+    based_by state asked group object (method_base state asked object) refl held
 
-version_by : (state : ReplicaState) (object : ObjectId) (made : Option Candidate) (fresh : Candidate) (stamp : Stamp)
-    (versions : List ObjState) (keys : List (ObjectId × Stamp)) → made ≡ Some fresh → stamp ≡ fresh.stamp
+version_by : (state : ReplicaState) (object : ObjectId) (found : Option Candidate) (base : Candidate) (stamp : Stamp)
+    (versions : List ObjState) (keys : List (ObjectId × Stamp)) → found ≡ Some base
     → versions_under state keys ≡ versions
-    → versions_under state (cons_option (option_map (λ (found : Stamp). (object, found))
-    (option_map (λ (it : Candidate). it.stamp) made)) keys)
+    → versions_under state (cons_option (option_map (λ (it : Stamp). (object, it))
+    (option_map (λ (it : Candidate). stamp) found)) keys)
     ≡ cons_option (version_at object stamp state.versions) versions
-version_by state object made fresh stamp versions keys is_made is_stamp so_far =
-    rw (is_made, is_stamp) (ap (cons_option (version_at object fresh.stamp state.versions)) so_far)
+version_by state object found base stamp versions keys is so_far =
+    rw is (ap (cons_option (version_at object stamp state.versions)) so_far)
 
-versions_retried : (state : ReplicaState) (asked : Asked) (objects : List ObjectId)
-    → list_all (is_held state asked) objects ≡ true
+versions_retried : (state : ReplicaState) (asked : Asked) (group : List (ObjectId × ℕ)) (objects : List ObjectId)
+    → list_all (is_held state asked group) objects ≡ true
     → versions_under state (fresh_stamps state asked objects) ≡ fresh_versions state asked objects
-versions_retried state asked [] all = refl
-versions_retried state asked (object ∷ later) all =
-    let parts : (is_held state asked object ≡ true) × (list_all (is_held state asked) later ≡ true) =
+versions_retried state asked group [] all = refl
+versions_retried state asked group (object ∷ later) all =
+    let parts : (is_held state asked group object ≡ true) × (list_all (is_held state asked group) later ≡ true) =
     and_parts _ _ all in
-    let made : IsMade state asked object = made_of_held state asked object parts.0 in
-    version_by state object (fresh_act state asked object) made.fresh (fresh_stamp asked object)
-    (fresh_versions state asked later) (fresh_stamps state asked later) made.is
-    (fresh_on-stamp state asked object made.fresh made.is) (versions_retried state asked later parts.1)
+    let based : IsBased state asked object = based_of_held state asked group object parts.0 in
+    version_by state object (method_base state asked object) based.base (fresh_stamp asked object)
+    (fresh_versions state asked later) (fresh_stamps state asked later) based.is
+    (versions_retried state asked group later parts.1)
 
 cons_made : (object : ObjectId) (version : ObjState) (made : Option Candidate) (later : List Accepted)
     → cons_option (option_map (λ (fresh : Candidate). record {
@@ -139,16 +177,22 @@ module _ (state : ReplicaState) (asked : Asked) where
   abbrev shown : List ObjectId → List Seen
   shown objects = map (seen_of state asked) objects
 
-  held_is : (object : ObjectId) → held_on state asked (seen_of state asked object) ≡ is_held state asked object
-  unfolding held_on is_held
-  held_is object = refl
+  group_is : (objects : List ObjectId) → group_seen asked (shown objects) ≡ fresh_group asked objects
+  group_is objects =
+      ap unless_alone
+      (made_seen (seen_of state asked) (λ (one : Seen). (one.object, (stamp_seen asked one).time)) objects)
 
-  all_held : (objects : List ObjectId)
-      → list_all (held_on state asked) (shown objects) ≡ list_all (is_held state asked) objects
-  all_held [] = refl
-  all_held (object ∷ later) =
-      ap (λ (held : Bool). held && list_all (held_on state asked) (shown later)) (held_is object)
-      ∙ ap (λ (all : Bool). is_held state asked object && all) (all_held later)
+  held_is : (group : List (ObjectId × ℕ)) (object : ObjectId)
+      → held_on state asked group (seen_of state asked object) ≡ is_held state asked group object
+  unfolding held_on is_held
+  held_is group object = refl
+
+  all_held : (group : List (ObjectId × ℕ)) (objects : List ObjectId)
+      → list_all (held_on state asked group) (shown objects) ≡ list_all (is_held state asked group) objects
+  all_held group [] = refl
+  all_held group (object ∷ later) =
+      ap (λ (held : Bool). held && list_all (held_on state asked group) (shown later)) (held_is group object)
+      ∙ ap (λ (all : Bool). is_held state asked group object && all) (all_held group later)
 
   fresh_keys_are : (objects : List ObjectId) → fresh_keys asked (shown objects) ≡ fresh_stamps state asked objects
   fresh_keys_are objects = kept_seen (seen_of state asked) (fresh_key asked) objects
@@ -162,7 +206,7 @@ module _ (state : ReplicaState) (asked : Asked) where
       ap (versions_under state) (base_keys_are objects) ∙ versions_of_bases state asked objects
 
   retry_by : (parts : List (ObjectId × Method)) (objects : List ObjectId) (all : Bool)
-      → list_all (is_held state asked) objects ≡ all
+      → list_all (is_held state asked (fresh_group asked objects)) objects ≡ all
       → option_and_then (λ (keys : List (ObjectId × Stamp)). done_again keys
       (standing_in asked parts (versions_under state keys)))
       (cond all (Some (fresh_stamps state asked objects)) None)
@@ -170,7 +214,7 @@ module _ (state : ReplicaState) (asked : Asked) where
       (standing_in asked parts (fresh_versions state asked objects))) None
   retry_by parts objects true all =
       ap (λ (versions : List ObjState). done_again (fresh_stamps state asked objects)
-      (standing_in asked parts versions)) (versions_retried state asked objects all)
+      (standing_in asked parts versions)) (versions_retried state asked (fresh_group asked objects) objects all)
   retry_by parts objects false all = refl
 
   retry_is : (parts : List (ObjectId × Method)) (objects : List ObjectId)
@@ -180,10 +224,13 @@ module _ (state : ReplicaState) (asked : Asked) where
       let gives : Option (List (ObjectId × Stamp)) → Option Decision =
       λ held. option_and_then (λ (keys : List (ObjectId × Stamp)). done_again keys
       (standing_in asked parts (versions_under state keys))) held in
-      ap (λ (all : Bool). gives (cond all (Some (fresh_keys asked (shown objects))) None)) (all_held objects)
-      ∙ ap (λ (keys : List (ObjectId × Stamp)). gives (cond (list_all (is_held state asked) objects) (Some keys) None))
-      (fresh_keys_are objects)
-      ∙ retry_by parts objects (list_all (is_held state asked) objects) refl
+      let held : List (ObjectId × ℕ) → Bool =
+      λ group. list_all (held_on state asked group) (shown objects) in
+      let all : Bool = list_all (is_held state asked (fresh_group asked objects)) objects in
+      ap (λ (test : Bool). gives (cond test (Some (fresh_keys asked (shown objects))) None))
+      (ap held (group_is objects) ∙ all_held (fresh_group asked objects) objects)
+      ∙ ap (λ (keys : List (ObjectId × Stamp)). gives (cond all (Some keys) None)) (fresh_keys_are objects)
+      ∙ retry_by parts objects all refl
 
   current_is : (objects : List ObjectId) → current_on state (shown objects) ≡ row_current state asked objects
   unfolding current_on row_current
@@ -223,20 +270,20 @@ module _ (state : ReplicaState) (asked : Asked) where
   kept_is parts objects =
       ap (λ (versions : List ObjState). repeated (standing_in asked parts versions)) (versions_are objects)
 
-  accepted_is : (objects : List ObjectId) (versions : List ObjState)
-      → accepted_on asked (shown objects) versions ≡ accepted_by state asked objects versions
+  accepted_is : (group : List (ObjectId × ℕ)) (objects : List ObjectId) (versions : List ObjState)
+      → accepted_on asked group (shown objects) versions ≡ accepted_by state asked group objects versions
   unfolding accepted_by
-  accepted_is [] versions = refl
-  accepted_is (object ∷ later) [] = refl
-  accepted_is (object ∷ later) (version ∷ versions) =
-      let made : Option Candidate = fresh_act state asked object in
+  accepted_is group [] versions = refl
+  accepted_is group (object ∷ later) [] = refl
+  accepted_is group (object ∷ later) (version ∷ versions) =
+      let made : Option Candidate = fresh_act state asked group object in
       ap (cons_option (option_map (λ (fresh : Candidate). record {
         object = object;
         candidate = fresh;
         state = Some version;
-      }) made)) (accepted_is later versions)
-      ∙ cons_made object version made (accepted_by state asked later versions)
-      ∙ sym (accepted_cons state asked object version made later versions refl)
+      }) made)) (accepted_is group later versions)
+      ∙ cons_made object version made (accepted_by state asked group later versions)
+      ∙ sym (accepted_cons state asked group object version made later versions refl)
 
   done_is : (parts : List (ObjectId × Method)) (objects : List ObjectId)
       → done_by asked parts (shown objects) (versions_under state (base_keys (shown objects)))
@@ -248,16 +295,21 @@ module _ (state : ReplicaState) (asked : Asked) where
       let gives : List (ObjectId × Stamp) → List ObjState → List Accepted → Option Decision =
       λ keys before accepted. Some
       (Answers (Done keys (performed_answer parts (values_of before))) accepted) in
-      ap (λ (before : List ObjState). gives (fresh_keys asked (shown objects)) before
-      (accepted_on asked (shown objects) (states (map (stamp_seen asked) (shown objects)) before)))
+      let group : List (ObjectId × ℕ) = fresh_group asked objects in
+      let seen : List Seen = shown objects in
+      let bases : List ObjState = base_versions state asked objects in
+      let after : List ObjState = states (map (fresh_stamp asked) objects) bases in
+      ap (λ (before : List ObjState). gives (fresh_keys asked seen) before
+      (accepted_on asked (group_seen asked seen) seen (states (map (stamp_seen asked) seen) before)))
       (versions_are objects)
-      ∙ ap (λ (stamps : List Stamp). gives (fresh_keys asked (shown objects)) (base_versions state asked objects)
-      (accepted_on asked (shown objects) (states stamps (base_versions state asked objects))))
-      (stamps_seen asked (seen_of state asked) objects)
-      ∙ ap (λ (accepted : List Accepted). gives (fresh_keys asked (shown objects)) (base_versions state asked objects)
-      accepted) (accepted_is objects (states (map (fresh_stamp asked) objects) (base_versions state asked objects)))
-      ∙ ap (λ (keys : List (ObjectId × Stamp)). gives keys (base_versions state asked objects)
-      (accepted_by state asked objects (states (map (fresh_stamp asked) objects) (base_versions state asked objects))))
+      ∙ ap (λ (stamps : List Stamp). gives (fresh_keys asked seen) bases
+      (accepted_on asked (group_seen asked seen) seen (states stamps bases)))
+      (made_seen (seen_of state asked) (stamp_seen asked) objects)
+      ∙ ap (λ (joined : List (ObjectId × ℕ)). gives (fresh_keys asked seen) bases (accepted_on asked joined seen after))
+      (group_is objects)
+      ∙ ap (λ (accepted : List Accepted). gives (fresh_keys asked seen) bases accepted)
+      (accepted_is group objects after)
+      ∙ ap (λ (keys : List (ObjectId × Stamp)). gives keys bases (accepted_by state asked group objects after))
       (fresh_keys_are objects)
 
   told_is : (parts : List (ObjectId × Ask)) (objects : List ObjectId)

@@ -114,10 +114,19 @@ fresh_stamp asked object =
       set = asked.set;
     }
 
--- the candidate that the act makes on an object
-abbrev pub fresh_act : ReplicaState → Asked → ObjectId → Option Candidate
-fresh_act state asked object =
-    option_map (λ base. record { stamp = fresh_stamp asked object; prior = base.stamp; group = [] })
+-- one candidate alone has no group
+abbrev pub unless_alone : List (ObjectId × ℕ) → List (ObjectId × ℕ)
+unless_alone (member ∷ []) = []
+unless_alone members = members
+
+-- the group of the candidates that are made on these objects: each object with the time of its fresh stamp
+abbrev pub fresh_group : Asked → List ObjectId → List (ObjectId × ℕ)
+fresh_group asked objects = unless_alone (map (λ object. (object, (fresh_stamp asked object).time)) objects)
+
+-- the candidate that the act makes on an object, with this group
+abbrev pub fresh_act : ReplicaState → Asked → List (ObjectId × ℕ) → ObjectId → Option Candidate
+fresh_act state asked group object =
+    option_map (λ base. record { stamp = fresh_stamp asked object; prior = base.stamp; group = group })
     (method_base state asked object)
 
 -- the objects, each with its stamp
@@ -126,7 +135,7 @@ stamps_by stamp objects = filter_map (λ object. option_map (λ (found : Stamp).
 
 abbrev pub fresh_stamps : ReplicaState → Asked → List ObjectId → List (ObjectId × Stamp)
 fresh_stamps state asked objects =
-    stamps_by (λ object. option_map (λ fresh. fresh.stamp) (fresh_act state asked object)) objects
+    stamps_by (λ object. option_map (λ base. fresh_stamp asked object) (method_base state asked object)) objects
 
 abbrev pub base_stamps : ReplicaState → Asked → List ObjectId → List (ObjectId × Stamp)
 base_stamps state asked objects =
@@ -172,9 +181,9 @@ row_thin state asked =
     (find (λ set. nat_lt (length set.entries) (quorum state.keys.bounds)) asked.sets)
 
 -- the fresh candidate of an object is held already
-unfoldable pub is_held : ReplicaState → Asked → ObjectId → Bool
-is_held state asked object =
-    elim (fresh_act state asked object) [ None ↦ false | Some fresh ↦ holds fresh (own_candidates state object) ]
+unfoldable pub is_held : ReplicaState → Asked → List (ObjectId × ℕ) → ObjectId → Bool
+is_held state asked group object =
+    elim (fresh_act state asked group object) [ None ↦ false | Some fresh ↦ holds fresh (own_candidates state object) ]
 
 -- an act that was performed before is done, with the answer that it had
 abbrev pub done_again : List (ObjectId × Stamp) → Standing → Option Decision
@@ -185,7 +194,7 @@ done_again stamps (Spent object number) = None
 -- a retry whose candidates are all held is told the answer that their versions keep
 unfoldable pub row_retry : ReplicaState → Asked → List (ObjectId × Method) → List ObjectId → Option Decision
 row_retry state asked parts objects =
-    if list_all (is_held state asked) objects
+    if list_all (is_held state asked (fresh_group asked objects)) objects
     then done_again (fresh_stamps state asked objects) (standing_in asked parts (fresh_versions state asked objects))
     else None
 
@@ -235,13 +244,13 @@ row_full state asked objects =
     (λ object. refusal.HistoryFull object) objects
 
 -- each object's fresh candidate, with its version after the act
-unfoldable pub accepted_by : ReplicaState → Asked → List ObjectId → List ObjState → List Accepted
-accepted_by state asked [] versions = []
-accepted_by state asked (object ∷ objects) [] = []
-accepted_by state asked (object ∷ objects) (version ∷ versions) = elim (fresh_act state asked object) [
-  | None ↦ accepted_by state asked objects versions
+unfoldable pub accepted_by : ReplicaState → Asked → List (ObjectId × ℕ) → List ObjectId → List ObjState → List Accepted
+accepted_by state asked group [] versions = []
+accepted_by state asked group (object ∷ objects) [] = []
+accepted_by state asked group (object ∷ objects) (version ∷ versions) = elim (fresh_act state asked group object) [
+  | None ↦ accepted_by state asked group objects versions
   | Some fresh ↦ record { object = object; candidate = fresh; state = Some version }
-      ∷ accepted_by state asked objects versions
+      ∷ accepted_by state asked group objects versions
 ]
 
 -- the act is performed upon the versions, and all its candidates are accepted
@@ -250,7 +259,8 @@ row_done state asked parts objects =
     let before = base_versions state asked objects in
     let stamps = map (fresh_stamp asked) objects in
     Some (Answers (verdict.Done (fresh_stamps state asked objects) (performed_answer parts (values_of before)))
-    (accepted_by state asked objects (performed_states asked.client asked.number parts stamps before)))
+    (accepted_by state asked (fresh_group asked objects) objects
+    (performed_states asked.client asked.number parts stamps before)))
 
 -- the query is answered from the versions
 unfoldable pub row_told : ReplicaState → Asked → List (ObjectId × Ask) → List ObjectId → Option Decision

@@ -9,7 +9,7 @@ ghost use Rattle.qu_frames.specs.declared.verdict.Verdict.TheVariants.{Mended};
 ghost use Rattle.qu_rows.specs.declared.decision.Decision.TheVariants.{Answers};
 ghost use Rattle.qu_rows.specs.Allowed.{MayDecide};
 ghost use Rattle.qu_rows.specs.Rows.{shown_of, seen_of, row_few, wanted_version, part_of, mending_on, decision_by, decide_repair, row_unknown, decide_act, decide_ask, decision_on, objects_of};
-ghost use Rattle.qu_rows.specs.SeenRows.{versions_under, base_keys, current_on, method_on, version_on, act_upon, ask_upon};
+ghost use Rattle.qu_rows.specs.SeenRows.{AreOperated, versions_under, base_keys, current_on, method_on, version_on, act_upon, ask_upon};
 
 mod acting;
 mod bases;
@@ -126,6 +126,7 @@ impl<'a> Rows<'a> {
     fn decide_act_on(&self, asked: &Asked, act: &Act, seen: &[Seen]) -> Result<Decision, NoMemory>
         requires known { row_unknown self.now asked.now ≡ None }
         requires one_each { length seen.now ≡ length act.now }
+        requires objects { AreOperated seen.now }
         ensures { IfOk result (λ decision. decision ≡ act_upon self.now asked.now act.now seen.now) }
     {
         if let Some(refusal) = self.row_thin(asked) {
@@ -217,7 +218,14 @@ impl<'a> Rows<'a> {
         ensures { IfOk result (λ made. made ≡ mending_on self.now asked.now target) }
     {
         let bounds = self.keys.bounds();
-        let mend = Mend::of(asked.sets, asked.set, target, asked.client, &bounds);
+        let mend = Mend::of(
+            self.alloc,
+            asked.sets,
+            asked.set,
+            target,
+            asked.client,
+            &bounds,
+        )?;
         let remedies = mend.remedies(self.alloc, asked.sets, &bounds)?;
         let parts = self.parts(asked, remedies.as_slice())?;
         mend.decide(self.alloc, parts.as_slice())

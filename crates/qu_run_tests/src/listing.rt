@@ -6,7 +6,7 @@ use qu_frames::Letter;
 use qu_listing::events_text;
 use qu_objects::Outcome;
 use qu_testing::holds;
-use qu_trace::{Entry, Event, Setup, Trace};
+use qu_trace::{Entry, Event, Premises, Setup, Trace};
 use std::alloc::Global;
 use std::test::Fail;
 
@@ -19,7 +19,7 @@ const LISTING: &str = "event 1 tick client 1\n\
 #[test]
 fn what_no_script_makes_is_told(rt: HostRuntime) -> Result<(), Fail> {
     let trace = trace_of(rt.alloc(), entries(rt.alloc())?)?;
-    let listing = events_text(rt.alloc(), &trace)?;
+    let listing = events_text(rt.alloc(), &trace, &Premises::Hold, &[])?;
     holds(listing.as_slice() == LISTING.as_bytes(), "the listing")
 }
 

@@ -1,4 +1,4 @@
-//! Words that no report has as long as an operation has one part.
+//! Answers of two parts, and of a refused second one.
 
 use qu_base::List;
 use qu_objects::{Answer, Item, UNDER};

@@ -3,28 +3,28 @@ use Rattle.std.proofs.Common.{◌≡◌, ℕ, zero, suc, ◌+◌, ◌<◌, ◌�
 use Rattle.std.proofs.lemmas.List.{at_drop_more, at_drop_all}
 use Rattle.qu_base.specs.declared.party.ClientId.{ClientId}
 use Rattle.qu_trace.specs.declared.event.Event.TheVariants as event
-use Rattle.qu_language.specs.declared.bad.Bad.{Bad}
 use Rattle.qu_language.specs.declared.bad.ScriptFail.{ScriptFail}
 use Rattle.qu_language.specs.declared.bad.ScriptFail.TheVariants as fails
 use Rattle.qu_language.specs.declared.line.Line.{Line}
-use Rattle.qu_language.specs.Meaning.{then_good, Fails}
-use Rattle.qu_script.specs.Events.{Playing, MakesPlay, event_made, deliveries_made, if_waiting, lowest_waiting, flow_made, ticks_made, line_made, lines_made}
+use Rattle.qu_language.specs.Meaning.{then_good}
+use Rattle.qu_script.specs.Events.{Playing, Stopped, StopsAs, MakesPlay, event_made, deliveries_made, if_waiting, lowest_waiting, flow_made, ticks_made, line_made, lines_made}
 
--- ---- fails
+-- ---- stops
 
 -- what ends a first part ends the whole
-fails_then : {X Y : Type 0} (fail : ScriptFail) (first : Result X Bad) (next : X → Result Y Bad)
-    → Fails fail first → Fails fail (then_good first next)
-fails_then (fails.Bad bad) first next is = ap (λ (it : Result _ Bad). then_good it next) is
-fails_then fails.NoMemory first next is = tt
+stops_then : (fail : ScriptFail) (at : Playing) (first : Result Playing Stopped)
+    (next : Playing → Result Playing Stopped) → StopsAs fail at first → StopsAs fail at (then_good first next)
+stops_then (fails.Bad bad) at first next is = ap (λ (it : Result Playing Stopped). then_good it next) is
+stops_then fails.NoMemory at first next is = tt
 
-fails_as : {X : Type 0} (fail : ScriptFail) (meant same : Result X Bad) → meant ≡ same → Fails fail meant
-    → Fails fail same
-fails_as fail meant same is here = subst (λ (it : Result _ Bad). Fails fail it) is here
+stops_as : (fail : ScriptFail) (at : Playing) (meant same : Result Playing Stopped) → meant ≡ same
+    → StopsAs fail at meant → StopsAs fail at same
+stops_as fail at meant same is here = subst (λ (it : Result Playing Stopped). StopsAs fail at it) is here
 
-pub fails_with : (result : Result (Unit {0}) ScriptFail) (fail : ScriptFail) (playing : Playing)
-    (meant : Result Playing Bad) → result ≡ Err fail → Fails fail meant → MakesPlay result playing meant
-fails_with result fail playing meant is here =
+pub stops_with : (result : Result (Unit {0}) ScriptFail) (fail : ScriptFail) (playing : Playing)
+    (meant : Result Playing Stopped) → result ≡ Err fail → StopsAs fail playing meant
+    → MakesPlay result playing meant
+stops_with result fail playing meant is here =
     subst (λ (it : Result (Unit {0}) ScriptFail). MakesPlay it playing meant) (sym is) here
 
 -- ---- deliveries
@@ -41,16 +41,16 @@ pub deliveries_more : (number : ℕ) (playing after : Playing) (letters : List �
     → deliveries_made number after (drop (index + 1) letters) ≡ deliveries_made number playing (drop index letters)
 deliveries_more number playing after letters index below made =
     sym (deliveries_step number playing letters index below
-    ∙ ap (λ (it : Result Playing Bad). then_good it
+    ∙ ap (λ (it : Result Playing Stopped). then_good it
     (λ after. deliveries_made number after (drop (index + 1) letters))) made)
 
-pub deliveries_stop : (number : ℕ) (playing : Playing) (letters : List ℕ) (index : ℕ) (fail : ScriptFail)
-    (meant : Result Playing Bad) → index < length letters
+pub deliveries_stop : (number : ℕ) (playing : Playing) (letters : List ℕ) (index : ℕ) (fail : ScriptFail) (at : Playing)
+    (meant : Result Playing Stopped) → index < length letters
     → deliveries_made number playing (drop index letters) ≡ meant
-    → Fails fail (event_made number playing (event.Deliver (get_or letters index 0))) → Fails fail meant
-deliveries_stop number playing letters index fail meant below is here =
-    fails_as fail _ meant (sym (deliveries_step number playing letters index below) ∙ is)
-    (fails_then fail (event_made number playing (event.Deliver (get_or letters index 0)))
+    → StopsAs fail at (event_made number playing (event.Deliver (get_or letters index 0))) → StopsAs fail at meant
+deliveries_stop number playing letters index fail at meant below is here =
+    stops_as fail at _ meant (sym (deliveries_step number playing letters index below) ∙ is)
+    (stops_then fail at (event_made number playing (event.Deliver (get_or letters index 0)))
     (λ after. deliveries_made number after (drop (index + 1) letters)) here)
 
 pub deliveries_end : (number : ℕ) (playing : Playing) (letters : List ℕ) (index : ℕ) → length letters ≤ index
@@ -81,16 +81,16 @@ pub flow_more : (number left count letter : ℕ) (playing after : Playing) → c
 flow_more number left count letter playing after is waits made =
     sym (ap (λ (it : ℕ). flow_made number it playing) is
     ∙ flow_delivers number left letter playing waits
-    ∙ ap (λ (it : Result Playing Bad). then_good it (λ after. flow_made number left after)) made)
+    ∙ ap (λ (it : Result Playing Stopped). then_good it (λ after. flow_made number left after)) made)
 
-pub flow_stop : (number left count letter : ℕ) (playing : Playing) (fail : ScriptFail)
-    (meant : Result Playing Bad) → count ≡ suc left → lowest_waiting playing ≡ Some letter
-    → flow_made number count playing ≡ meant → Fails fail (event_made number playing (event.Deliver letter))
-    → Fails fail meant
-flow_stop number left count letter playing fail meant is waits same here =
-    fails_as fail _ meant (sym (flow_delivers number left letter playing waits)
+pub flow_stop : (number left count letter : ℕ) (playing : Playing) (fail : ScriptFail) (at : Playing)
+    (meant : Result Playing Stopped) → count ≡ suc left → lowest_waiting playing ≡ Some letter
+    → flow_made number count playing ≡ meant → StopsAs fail at (event_made number playing (event.Deliver letter))
+    → StopsAs fail at meant
+flow_stop number left count letter playing fail at meant is waits same here =
+    stops_as fail at _ meant (sym (flow_delivers number left letter playing waits)
     ∙ ap (λ (it : ℕ). flow_made number it playing) (sym is) ∙ same)
-    (fails_then fail (event_made number playing (event.Deliver letter)) (λ after. flow_made number left after) here)
+    (stops_then fail at (event_made number playing (event.Deliver letter)) (λ after. flow_made number left after) here)
 
 pub flow_rests : (number count : ℕ) (playing : Playing) → lowest_waiting playing ≡ None
     → flow_made number count playing ≡ Ok playing
@@ -118,15 +118,15 @@ pub ticks_more : (number left count : ℕ) (client : ClientId) (playing after : 
     → ticks_made number client left after ≡ ticks_made number client count playing
 ticks_more number left count client playing after is made =
     sym (ap (λ (it : ℕ). ticks_made number client it playing) is ∙ ticks_step number left client playing
-    ∙ ap (λ (it : Result Playing Bad). then_good it (λ after. ticks_made number client left after)) made)
+    ∙ ap (λ (it : Result Playing Stopped). then_good it (λ after. ticks_made number client left after)) made)
 
-pub ticks_stop : (number left count : ℕ) (client : ClientId) (playing : Playing) (fail : ScriptFail)
-    (meant : Result Playing Bad) → count ≡ suc left → ticks_made number client count playing ≡ meant
-    → Fails fail (event_made number playing (event.Tick client)) → Fails fail meant
-ticks_stop number left count client playing fail meant is same here =
-    fails_as fail _ meant (sym (ticks_step number left client playing)
+pub ticks_stop : (number left count : ℕ) (client : ClientId) (playing : Playing) (fail : ScriptFail) (at : Playing)
+    (meant : Result Playing Stopped) → count ≡ suc left → ticks_made number client count playing ≡ meant
+    → StopsAs fail at (event_made number playing (event.Tick client)) → StopsAs fail at meant
+ticks_stop number left count client playing fail at meant is same here =
+    stops_as fail at _ meant (sym (ticks_step number left client playing)
     ∙ ap (λ (it : ℕ). ticks_made number client it playing) (sym is) ∙ same)
-    (fails_then fail (event_made number playing (event.Tick client))
+    (stops_then fail at (event_made number playing (event.Tick client))
     (λ after. ticks_made number client left after) here)
 
 pub ticks_end : (number count : ℕ) (client : ClientId) (playing : Playing) → count ≡ 0
@@ -151,17 +151,17 @@ lines_more playing after lines index line below is made =
     sym (lines_step playing lines index line below
     ∙ ap (λ (it : ℕ × Line). then_good (line_made it.0 playing it.1)
     (λ after. lines_made after (drop (index + 1) lines))) (sym is)
-    ∙ ap (λ (it : Result Playing Bad). then_good it (λ after. lines_made after (drop (index + 1) lines))) made)
+    ∙ ap (λ (it : Result Playing Stopped). then_good it (λ after. lines_made after (drop (index + 1) lines))) made)
 
-pub lines_stop : (playing : Playing) (lines : List (ℕ × Line)) (index : ℕ) (line : ℕ × Line) (fail : ScriptFail)
-    (meant : Result Playing Bad) → index < length lines → line ≡ get_or lines index line
-    → lines_made playing (drop index lines) ≡ meant → Fails fail (line_made line.0 playing line.1) → Fails fail meant
-lines_stop playing lines index line fail meant below is same here =
-    fails_as fail _ meant
+pub lines_stop : (playing : Playing) (lines : List (ℕ × Line)) (index : ℕ) (line : ℕ × Line) (fail : ScriptFail) (at : Playing)
+    (meant : Result Playing Stopped) → index < length lines → line ≡ get_or lines index line
+    → lines_made playing (drop index lines) ≡ meant → StopsAs fail at (line_made line.0 playing line.1) → StopsAs fail at meant
+lines_stop playing lines index line fail at meant below is same here =
+    stops_as fail at _ meant
     (sym (lines_step playing lines index line below
     ∙ ap (λ (it : ℕ × Line). then_good (line_made it.0 playing it.1)
     (λ after. lines_made after (drop (index + 1) lines))) (sym is)) ∙ same)
-    (fails_then fail (line_made line.0 playing line.1) (λ after. lines_made after (drop (index + 1) lines)) here)
+    (stops_then fail at (line_made line.0 playing line.1) (λ after. lines_made after (drop (index + 1) lines)) here)
 
 pub lines_end : (playing : Playing) (lines : List (ℕ × Line)) (index : ℕ) → length lines ≤ index
     → lines_made playing (drop index lines) ≡ Ok playing

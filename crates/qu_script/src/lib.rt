@@ -9,4 +9,4 @@ mod run;
 
 pub use qu_language::{Bad, BadKind, How, Line, MOST_TICKS, SCRIPT_LIMIT, Script, ScriptFail};
 pub use read::{read_live_script, read_script};
-pub use run::play_script;
+pub use run::{Played, play_script, play_until_refused};

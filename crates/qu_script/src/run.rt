@@ -1,25 +1,58 @@
 ghost use Rattle.std.specs.Prelude.{◌≡◌, IfOk};
 ghost use Rattle.qu_world.specs.Run.{IsRun, IsSetup};
 ghost use Rattle.qu_language.specs.Meaning.{IsAsMeant};
-ghost use Rattle.qu_script.specs.Events.{run_of};
+ghost use Rattle.qu_script.specs.Events.{run_of, played_of};
 
 use super::player::Player;
-use qu_language::{Script, ScriptFail};
+use qu_base::NoMemory;
+use qu_language::{Bad, Script, ScriptFail};
 use qu_trace::Trace;
 use std::alloc::Global;
 
-/// Plays a script: its lines make events one after another, and the trace records them.
+/// How far the run of a script went.
+#[derive(Debug, Drop)]
+pub struct Played {
+    /// What happened.
+    pub trace: Trace,
+    /// The first line that could not be, with the reason: the run ended there.
+    pub refused: Option<Bad>,
+}
+
+/// Plays a script as far as it goes: its lines make events one after another, and the trace records them.
 ///
-/// The first line with an event that the world refuses, or with a reply that cannot be made, ends the
-/// run, and is told with the reason.
+/// The first line with an event that the world refuses, or with a reply that cannot be made, ends the run. What it made
+/// until then stays.
+#[tactic(auto, unfolding(crate::specs::Events::played_of))]
+pub fn play_until_refused(alloc: Global, script: &Script) -> Result<Played, NoMemory>
+    requires { IsSetup script.now.setup }
+    ensures value { IfOk result (λ played. played ≡ played_of script.now) }
+    ensures run { IfOk result (λ played. IsRun played.trace) }
+{
+    let setup = script.setup.copy(alloc)?;
+    let mut player = Player::start(alloc, setup)?;
+    let refused = match player.play(alloc, script.lines.as_slice()) {
+        Ok(()) => None,
+        Err(ScriptFail::Bad(bad)) => Some(bad),
+        Err(ScriptFail::NoMemory) => return Err(NoMemory),
+    };
+    Ok(Played {
+        trace: player.into_trace(),
+        refused,
+    })
+}
+
+/// Plays a script whose lines can all be.
+///
+/// The error is the first line that cannot be, as `play_until_refused` tells it.
 #[tactic(auto, unfolding(crate::specs::Events::run_of))]
 pub fn play_script(alloc: Global, script: &Script) -> Result<Trace, ScriptFail>
     requires { IsSetup script.now.setup }
     ensures value { IsAsMeant (λ trace. trace) result (run_of script.now) }
     ensures run { IfOk result IsRun }
 {
-    let setup = script.setup.copy(alloc)?;
-    let mut player = Player::start(alloc, setup)?;
-    player.play(alloc, script.lines.as_slice())?;
-    Ok(player.into_trace())
+    let Played { trace, refused } = play_until_refused(alloc, script)?;
+    match refused {
+        None => Ok(trace),
+        Some(bad) => Err(ScriptFail::Bad(bad)),
+    }
 }

@@ -34,7 +34,7 @@ impl Candidate {
         self.stamp.is_below(&other.stamp) || self.stamp == other.stamp && self.is_based_below(other)
     }
 
-    /// The same of two candidates with one stamp.
+    /// Whether the other one is greater by prior and group, where both have one stamp.
     #[tactic(auto, unfolding(crate::specs::Stamp::same_stamp))]
     fn is_based_below(&self, other: &Candidate) -> bool
         ensures { result ≡ is_based_below self.now other.now }

@@ -64,7 +64,7 @@ impl Waiting {
         }
     }
 
-    /// The same request, which waits for these versions.
+    /// This request, waiting for these versions.
     pub fn with_missing(self, missing: List<(ObjectId, Stamp)>) -> Waiting
         ensures { result ≡ record self { missing = missing } }
     {

@@ -75,7 +75,7 @@ fn place_of(kept: &[Kept], new: &Kept) -> Option<usize>
     kept.iter().position(|held| new.is_of_source(held))
 }
 
-/// The same histories, none of which is copied.
+/// These histories, each held once more and not copied.
 pub fn copies(alloc: Global, kept: &[Kept]) -> Result<List<Kept>, NoMemory>
     ensures { IfOk result (λ copies. copies ≡ kept.now) }
 {

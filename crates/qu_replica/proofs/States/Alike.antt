@@ -22,7 +22,7 @@ use Rattle.qu_versions.specs.Versions.{has_version}
 use Rattle.qu_mends.specs.declared.accepted.Accepted.{Accepted}
 use Rattle.qu_rows.specs.declared.decision.Decision.{Decision}
 use Rattle.qu_rows.specs.declared.decision.Decision.TheVariants.{Answers, Waits}
-use Rattle.qu_rows.specs.Rows.{Asked, asked_of, asked_at, fresh_act, fresh_stamp, fresh_stamps, is_held, row_unknown, row_thin, row_retry, row_current, row_method, row_version, row_kept, row_time, row_full, row_done, row_told, row_few, accepted_by, base_versions, objects_of, decide_act, decide_ask, decide_repair, decision_on}
+use Rattle.qu_rows.specs.Rows.{Asked, asked_of, asked_at, fresh_group, fresh_act, fresh_stamp, fresh_stamps, is_held, row_unknown, row_thin, row_retry, row_current, row_method, row_version, row_kept, row_time, row_full, row_done, row_told, row_few, accepted_by, base_versions, objects_of, decide_act, decide_ask, decide_repair, decision_on}
 use Rattle.qu_mends.specs.Table.{first_given}
 use Rattle.qu_rows.specs.Waiting.{TakenRequest}
 use Rattle.qu_rows.specs.State.{ReplicaState, without_waiting, one_more}
@@ -34,16 +34,17 @@ use Rattle.qu_replica.specs.Step.{shown, named, reply, with_found, carried_out, 
 
 -- ---- decisions
 
-accepted_bare : (state : ReplicaState) (asked : Asked) (objects : List ObjectId) (versions : List ObjState)
-    → accepted_by state asked objects versions ≡ accepted_by (without_waiting state) asked objects versions
+accepted_bare : (state : ReplicaState) (asked : Asked) (group : List (ObjectId × ℕ)) (objects : List ObjectId)
+    (versions : List ObjState) → accepted_by state asked group objects versions
+    ≡ accepted_by (without_waiting state) asked group objects versions
 unfolding accepted_by
-accepted_bare state asked [] versions = refl
-accepted_bare state asked (object ∷ objects) [] = refl
-accepted_bare state asked (object ∷ objects) (version ∷ versions) =
-    ap (λ (later : List Accepted). elim (fresh_act state asked object) [
+accepted_bare state asked group [] versions = refl
+accepted_bare state asked group (object ∷ objects) [] = refl
+accepted_bare state asked group (object ∷ objects) (version ∷ versions) =
+    ap (λ (later : List Accepted). elim (fresh_act state asked group object) [
       | None ↦ later
       | Some fresh ↦ record { object = object; candidate = fresh; state = Some version } ∷ later
-    ]) (accepted_bare state asked objects versions)
+    ]) (accepted_bare state asked group objects versions)
 
 done_bare : (state : ReplicaState) (asked : Asked) (parts : List (ObjectId × Method)) (objects : List ObjectId)
     → row_done state asked parts objects ≡ row_done (without_waiting state) asked parts objects
@@ -52,7 +53,7 @@ done_bare state asked parts objects =
     let before : List ObjState = base_versions state asked objects in
     ap (λ (accepted : List Accepted). Some (Answers
     (Done (fresh_stamps state asked objects) (performed_answer parts (values_of before))) accepted))
-    (accepted_bare state asked objects
+    (accepted_bare state asked (fresh_group asked objects) objects
     (performed_states asked.client asked.number parts (map (fresh_stamp asked) objects) before))
 
 decides_bare : (state : ReplicaState) (asked : Asked) (asks : Body)

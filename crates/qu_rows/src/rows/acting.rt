@@ -177,7 +177,7 @@ pub(super) fn row_kept(
 }
 
 /// Refuses objects whose time is spent.
-#[tactic(auto, using(crate::proofs::Shown::all_in_time), unfolding(crate::specs::SeenRows::time_on))]
+#[tactic(auto, unfolding(crate::specs::SeenRows::time_on))]
 pub(super) fn row_time(alloc: Global, seen: &[Seen]) -> Option<Decision>
     ensures in_time { IfNone result (All (λ one. one.latest.time < LAST_TIME) seen.now) }
     ensures value { result ≡ time_on seen.now }
@@ -187,8 +187,10 @@ pub(super) fn row_time(alloc: Global, seen: &[Seen]) -> Option<Decision>
 }
 
 /// The first whose time is spent.
-fn first_spent(seen: &[Seen]) -> Option<&Seen>
-    ensures { option_copied result ≡ find (λ one. nat_le LAST_TIME one.latest.time) seen.now }
+#[tactic(auto, using(crate::proofs::Shown::all_in_time))]
+pub(super) fn first_spent(seen: &[Seen]) -> Option<&Seen>
+    ensures in_time { IfNone result (All (λ one. one.latest.time < LAST_TIME) seen.now) }
+    ensures value { option_copied result ≡ find (λ one. nat_le LAST_TIME one.latest.time) seen.now }
 {
     seen.iter().find(|one| LAST_TIME <= one.latest.time)
 }

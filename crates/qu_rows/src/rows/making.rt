@@ -1,7 +1,7 @@
 ghost use Rattle.std.specs.Prelude.{◌≡◌, ◌<◌, length, map, IfOk, Some};
 ghost use Rattle.std.specs.List.{All};
 ghost use Rattle.qu_stamp.specs.declared.limits.TheConstants.{LAST_TIME};
-ghost use Rattle.qu_rows.specs.SeenRows.{stamp_seen, fresh_seen, fresh_keys, accepted_on, done_by};
+ghost use Rattle.qu_rows.specs.SeenRows.{AreOperated, stamp_seen, fresh_seen, members_seen, group_seen, fresh_keys, accepted_on, done_by};
 
 use crate::asked::Asked;
 use crate::decision::Decision;
@@ -23,6 +23,7 @@ pub(super) fn row_done(
 ) -> Result<Decision, NoMemory>
     requires one_each { length seen.now ≡ length act.now }
     requires versions { length before.now ≡ length act.now }
+    requires objects { AreOperated seen.now }
     requires in_time { All (λ one. one.latest.time < LAST_TIME) seen.now }
     ensures { IfOk result (λ decision. done_by asked.now act.now seen.now before.now ≡ Some decision) }
 {
@@ -36,7 +37,8 @@ pub(super) fn row_done(
         stamps.as_slice(),
     )?;
     let keys = fresh_keys(alloc, asked, seen)?;
-    let accepted = accept_each(alloc, asked, seen, states)?;
+    let group = fresh_group(alloc, asked, seen)?;
+    let accepted = accept_each(alloc, asked, &group, seen, states)?;
     Ok(Decision::Answers {
         verdict: Verdict::Done {
             stamps: keys,
@@ -71,11 +73,40 @@ fn fresh_keys(
 {
     let mut keys = List::new(alloc);
     for one in seen {
-        if let Some(candidate) = fresh_candidate(asked, one) {
-            keys.push((one.object, candidate.stamp))?;
+        if one.method.is_some() {
+            keys.push((one.object, fresh_stamp(asked, one)))?;
         }
     }
     Ok(keys)
+}
+
+/// The group of the candidates that an act makes on these objects.
+pub(super) fn fresh_group(alloc: Global, asked: &Asked, seen: &[Seen]) -> Result<Group, NoMemory>
+    requires objects { AreOperated seen.now }
+    requires in_time { All (λ one. one.latest.time < LAST_TIME) seen.now }
+    ensures { IfOk result (λ group. group ≡ group_seen asked.now seen.now) }
+{
+    if seen.len() == 1 {
+        return Ok(Group::none());
+    }
+    let members = fresh_members(alloc, asked, seen)?;
+    Ok(Group::new(members.as_slice()).unwrap())
+}
+
+/// The objects, each with the time of its candidate.
+fn fresh_members(
+    alloc: Global,
+    asked: &Asked,
+    seen: &[Seen],
+) -> Result<List<(ObjectId, u64)>, NoMemory>
+    requires { All (λ one. one.latest.time < LAST_TIME) seen.now }
+    ensures { IfOk result (λ members. members ≡ members_seen asked.now seen.now) }
+{
+    let mut members = List::new(alloc);
+    for one in seen {
+        members.push((one.object, fresh_stamp(asked, one).time))?;
+    }
+    Ok(members)
 }
 
 /// The candidates, each with one of these states.
@@ -83,15 +114,16 @@ fn fresh_keys(
 fn accept_each(
     alloc: Global,
     asked: &Asked,
+    group: &Group,
     seen: &[Seen],
     states: List<ObjState>,
 ) -> Result<List<Accepted>, NoMemory>
     requires { All (λ one. one.latest.time < LAST_TIME) seen.now }
-    ensures { IfOk result (λ accepted. accepted ≡ accepted_on asked.now seen.now states) }
+    ensures { IfOk result (λ accepted. accepted ≡ accepted_on asked.now group.now seen.now states) }
 {
     let mut accepted = List::new(alloc);
     for (one, state) in seen.iter().zip(states.into_vec()) {
-        if let Some(candidate) = fresh_candidate(asked, one) {
+        if let Some(candidate) = fresh_candidate(asked, group, one) {
             accepted.push(Accepted {
                 object: one.object,
                 candidate,
@@ -102,16 +134,16 @@ fn accept_each(
     Ok(accepted)
 }
 
-/// The candidate that an act makes on the object, where it may rest upon one.
-pub(super) fn fresh_candidate(asked: &Asked, one: &Seen) -> Option<Candidate>
+/// The candidate that an act makes on the object with this group, where it may rest upon one.
+pub(super) fn fresh_candidate(asked: &Asked, group: &Group, one: &Seen) -> Option<Candidate>
     requires { one.now.latest.time < LAST_TIME }
-    ensures { result ≡ fresh_seen asked.now one.now }
+    ensures { result ≡ fresh_seen asked.now group.now one.now }
 {
     match one.method {
         Some(base) => Some(Candidate {
             stamp: fresh_stamp(asked, one),
             prior: base.stamp,
-            group: Group::none(),
+            group: *group,
         }),
         None => None,
     }

@@ -1,10 +1,11 @@
-ghost use Rattle.std.specs.Prelude.{◌≡◌, IfOk, IsSome, IfSome, Some, IsTrue, ◌↔◌};
+ghost use Rattle.std.specs.Prelude.{◌≡◌, ◌<◌, IfOk, IsSome, IfSome, Some, IsTrue, ◌↔◌};
+ghost use Rattle.qu_stamp.specs.declared.limits.TheConstants.{LAST_TIME};
 ghost use Rattle.qu_rows.specs.Rows.{done_again};
-ghost use Rattle.qu_rows.specs.SeenRows.{fresh_seen, held_on, held_keys, again_by, retry_on};
+ghost use Rattle.qu_rows.specs.SeenRows.{AreOperated, fresh_seen, held_on, held_keys, again_by, retry_on};
 
 use super::Rows;
-use super::acting::standing_in;
-use super::making::fresh_candidate;
+use super::acting::{first_spent, standing_in};
+use super::making::{fresh_candidate, fresh_group};
 use crate::asked::Asked;
 use crate::decision::Decision;
 use qu_base::{List, NoMemory, ObjectId};
@@ -12,7 +13,7 @@ use qu_frames::Verdict;
 use qu_kept::Standing;
 use qu_mends::Seen;
 use qu_objects::{Act, ObjState};
-use qu_stamp::{Candidate, LAST_TIME, Stamp};
+use qu_stamp::{Candidate, Group, Stamp};
 use std::alloc::Global;
 
 // The row of an act that was performed before under these very stamps.
@@ -25,6 +26,7 @@ impl<'a> Rows<'a> {
         act: &Act,
         seen: &[Seen],
     ) -> Result<Option<Decision>, NoMemory>
+        requires { AreOperated seen.now }
         ensures { IfOk result (λ row. row ≡ retry_on self.now asked.now act.now seen.now) }
     {
         let held = self.held_keys(asked, seen)?;
@@ -37,18 +39,25 @@ impl<'a> Rows<'a> {
         }
     }
 
-    /// The stamps of the candidates that the act makes, where the replica holds them all.
+    /// The stamps of the candidates that the act makes, where the replica holds them all. It holds none with a time
+    /// after the last.
     #[tactic(auto, using(crate::proofs::Keeping::keeping))]
     fn held_keys(
         &self,
         asked: &Asked,
         seen: &[Seen],
     ) -> Result<Option<List<(ObjectId, Stamp)>>, NoMemory>
+        requires { AreOperated seen.now }
         ensures { IfOk result (λ held. held ≡ held_keys self.now asked.now seen.now) }
     {
-        let mut keys = List::new(self.alloc);
+        let alloc = self.alloc;
+        if first_spent(seen).is_some() {
+            return Ok(None);
+        }
+        let group = fresh_group(alloc, asked, seen)?;
+        let mut keys = List::new(alloc);
         for one in seen {
-            match self.held_fresh(asked, one) {
+            match self.held_fresh(asked, &group, one) {
                 Some(fresh) => keys.push((one.object, fresh.stamp))?,
                 None => return Ok(None),
             }
@@ -56,17 +65,15 @@ impl<'a> Rows<'a> {
         Ok(Some(keys))
     }
 
-    /// The candidate that the act makes on an object, where the replica holds it.
-    #[tactic(auto, using(crate::proofs::Held::spent_not_held), unfolding(crate::specs::SeenRows::held_on))]
-    fn held_fresh(&self, asked: &Asked, one: &Seen) -> Option<Candidate>
-        ensures held { IsSome result ↔ IsTrue (held_on self.now asked.now one.now) }
-        ensures value { IfSome result (λ fresh. fresh_seen asked.now one.now ≡ Some fresh) }
+    /// The candidate that the act makes on an object with this group, where the replica holds it.
+    #[tactic(auto, unfolding(crate::specs::SeenRows::held_on))]
+    fn held_fresh(&self, asked: &Asked, group: &Group, one: &Seen) -> Option<Candidate>
+        requires { one.now.latest.time < LAST_TIME }
+        ensures held { IsSome result ↔ IsTrue (held_on self.now asked.now group.now one.now) }
+        ensures value { IfSome result (λ fresh. fresh_seen asked.now group.now one.now ≡ Some fresh) }
     {
         let history = self.history(one.object)?;
-        if LAST_TIME <= one.latest.time {
-            return None;
-        }
-        let fresh = fresh_candidate(asked, one)?;
+        let fresh = fresh_candidate(asked, group, one)?;
         if history.holds(&fresh) {
             Some(fresh)
         } else {

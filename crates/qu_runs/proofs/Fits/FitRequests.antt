@@ -23,7 +23,7 @@ use Rattle.qu_objects.specs.declared.op.Op.TheVariants as op
 use Rattle.qu_objects.specs.declared.limits.TheConstants.{MOST_PARTS}
 use Rattle.qu_objects.specs.Parts.{are_parts}
 use Rattle.qu_objects.specs.Formats.{is_after, is_one_of, method_form, ask_form, part_form, parts_form, act_form, query_form}
-use Rattle.qu_objects.proofs.FewParts.{few_parts}
+use Rattle.qu_objects.proofs.PartLaws.{few_parts}
 use Rattle.qu_objects.specs.Digesting.{PartsFit, AsksFit}
 use Rattle.qu_frames.specs.declared.limits.TheConstants.{LAST_ROUND}
 use Rattle.qu_frames.specs.Body.{body_of}
@@ -34,7 +34,8 @@ use Rattle.qu_frames.specs.Formats as forms
 use Rattle.qu_question.specs.declared.kept.Kept.{Kept}
 use Rattle.qu_client.specs.declared.work.Work.{Work}
 use Rattle.qu_question.specs.Kept.{is_left_out, kept_of}
-use Rattle.qu_question.specs.Named.{operation_objects, are_objects_from, are_objects}
+use Rattle.qu_objects.specs.Parts.{are_objects_from}
+use Rattle.qu_question.specs.Named.{operation_objects, are_objects}
 use Rattle.qu_question.specs.Question.{lowest_of, entries_from, set_of, whole_sets, sets_of, target_of}
 use Rattle.qu_client.specs.Sound.{IsFor}
 use Rattle.qu_client.proofs.Cases.{IsRound}

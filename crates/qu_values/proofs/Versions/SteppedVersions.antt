@@ -25,14 +25,14 @@ use Rattle.qu_stamp.specs.declared.stamp.Stamp.{Stamp}
 use Rattle.qu_accepts.proofs.Handled.{made_for}
 use Rattle.qu_claims.specs.Handled.{IsHandled}
 use Rattle.qu_claims.specs.Parts.{Names}
-use Rattle.qu_claims.specs.Grounds.{IsGround, Accepts, Performs, IsRemedy, IsMade, Mends, MendsOn}
+use Rattle.qu_claims.specs.Grounds.{IsGround, Accepts, Performs, IsRemedy, IsMade, copied_on, Mends, MendsOn, mended_objects, stored_mended}
 use Rattle.qu_claims.specs.Times.{world_after}
 use Rattle.qu_claims.specs.Updates.{IsEverAccepted}
 use Rattle.qu_claims.specs.Values.{HasVersion}
 use Rattle.qu_claims.specs.RunSetting.{setting}
 use Rattle.qu_runs.specs.Plain.{ArePlain}
 use Rattle.qu_laws.proofs.KeptEntries.{base_accepted as accepted_of_base}
-use Rattle.qu_grounds.proofs.Grounds.{above_base, group_stores_none}
+use Rattle.qu_grounds.proofs.Grounds.{above_base}
 use Rattle.qu_claims.specs.Truth.{IsVersionOf}
 use Rattle.qu_values.proofs.Updating.Updates.{same_accepted}
 use Rattle.qu_values.proofs.Versions.EverAccepted.{once_accepted, quorum_ever}
@@ -57,7 +57,7 @@ use Rattle.qu_rows.specs.State.{own_candidates}
 use Rattle.qu_claims.specs.Setting.{IsNew}
 use Rattle.qu_accepts.proofs.Handled.{handled}
 use Rattle.qu_claims.specs.Grounds.{Reasons, AddsTo, IsDelivered}
-use Rattle.qu_grounds.proofs.Parts.{adds_or_not}
+use Rattle.qu_grounds.proofs.Parts.{Lists, listed_mended, adds_or_not}
 use Rattle.qu_laws.proofs.Laws.{new_accepted}
 use Rattle.qu_values.proofs.Versions.EverAccepted.{held_accepted, held_ever}
 use Rattle.qu_grounds.proofs.Performed.{stored_before}
@@ -299,22 +299,13 @@ module _ (trace : Trace) (laws : Laws (setting trace)) (joint : Joint (setting t
             (ap (λ (it : Stamp). version_at target it mid.versions) (sym (upon.link).prior) ∙ found))
       ]
 
-  copy_stores : (target : ObjectId) (copy : Candidate) (version : ObjState) → IsEverAccepted trace target copy
-      → HasVersion trace target copy version
-      → new.versions ≡ mid.versions ++ stored_if target copy.stamp (Some version)
-      → (found : Option ObjState) → version_at target copy.stamp mid.versions ≡ found
-      → Stores trace target new copy
-  copy_stores target copy version ever has stored (Some held) is = still_found target copy ever held is
-  copy_stores target copy version ever has stored None none =
-      (version, version_of_mended mid new target copy.stamp version stored none, has)
-
   -- so is that of a copy which the replica makes
-  copied_has : (asked : Asked) (target : ObjectId) (candidate : Candidate) (version : ObjState)
-      → asked.act ≡ None → (setting trace).plain candidate ≡ true
-      → IsMade mid.keys.bounds asked (target ∷ []) target candidate → IsEverAccepted trace target candidate
+  copied_has : (asked : Asked) (objects : List ObjectId) (target : ObjectId) (candidate : Candidate)
+      (version : ObjState) → asked.act ≡ None → (setting trace).plain candidate ≡ true
+      → IsMade mid.keys.bounds asked objects target candidate → IsEverAccepted trace target candidate
       → version_at target candidate.prior mid.versions ≡ Some version → HasVersion trace target candidate version
   unfolding setting
-  copied_has asked target candidate version no_act plain made ever found =
+  copied_has asked objects target candidate version no_act plain made ever found =
       copy_has target candidate version plain
       (ap (λ (act : Option Digest). is_some act) (ap (λ (it : Stamp). it.act) (made.stamp) ∙ no_act)) ever
       (is_below_by_time opening_stamp candidate.stamp (later_time candidate.stamp.time _
@@ -323,22 +314,31 @@ module _ (trace : Trace) (laws : Laws (setting trace)) (joint : Joint (setting t
       later_time : (time before : ℕ) → time ≡ before + 1 → 0 < time
       later_time time before is_next = omega (arith, is_next)
 
-  mended_stores : (asked : Asked) (target : ObjectId) (candidate : Candidate) (version : Option ObjState)
-      → asked.act ≡ None → IsRemedy mid asked target candidate version
-      → new.versions ≡ mid.versions ++ stored_if target candidate.stamp version
-      → (setting trace).plain candidate ≡ true → IsEverAccepted trace target candidate
-      → Stores trace target new candidate
+  mended_stores : (asked : Asked) (object : ObjectId) (candidate : Candidate) (found : Option ObjState)
+      → asked.act ≡ None → IsRemedy mid asked object candidate found
+      → ((version : ObjState) → found ≡ Some version → version_at object candidate.stamp mid.versions ≡ None
+      → version_at object candidate.stamp new.versions ≡ Some version)
+      → (setting trace).plain candidate ≡ true → IsEverAccepted trace object candidate
+      → Stores trace object new candidate
   unfolding setting
-  mended_stores asked target candidate version no_act (IsRemedy.inline_barrier barrier found) stored plain ever =
+  mended_stores asked object candidate found no_act (IsRemedy.inline_barrier barrier shown) stored plain ever =
       absurd (false≢true (ap not (sym barrier) ∙ plain))
-  mended_stores asked target candidate version no_act (IsRemedy.inline_method its kind found is) stored plain ever =
-      still_found target candidate ever its is
-  mended_stores asked target candidate version no_act (IsRemedy.barrier barrier made) stored plain ever =
+  mended_stores asked object candidate found no_act (IsRemedy.inline_method its kind shown is) stored plain ever =
+      still_found object candidate ever its is
+  mended_stores asked object candidate found no_act (IsRemedy.barrier barrier made) stored plain ever =
       absurd (false≢true (ap not (sym barrier) ∙ plain))
-  mended_stores asked target candidate version no_act
-      (IsRemedy.copy latest its kind made single barrier is_latest full is) stored plain ever =
-      copy_stores target candidate its ever (copied_has asked target candidate its no_act plain made ever is) stored
-      (version_at target candidate.stamp mid.versions) refl
+  mended_stores asked object candidate found no_act
+      (IsRemedy.copy latest its kind made together barrier is_latest full is) stored plain ever =
+      by_found (version_at object candidate.stamp mid.versions) refl
+    where
+      by_found : (held : Option ObjState) → version_at object candidate.stamp mid.versions ≡ held
+          → Stores trace object new candidate
+      by_found (Some held) is_held = still_found object candidate ever held is_held
+      by_found None none = (
+        its,
+        stored its refl none,
+        copied_has asked (copied_on mid.keys.bounds asked object) object candidate its no_act plain made ever is,
+      )
 
   -- the version of a candidate without barrier that the request adds is that of its stamp
   fresh_of_stamp : (object : ObjectId) → AddsTo one.asks one.group object
@@ -367,22 +367,10 @@ module _ (trace : Trace) (laws : Laws (setting trace)) (joint : Joint (setting t
       let asked : Asked = asked_of one.client one.number one.sets (body.Mend target) in
       let ever : IsEverAccepted trace object (one.candidates object) =
       now_accepted object (subst (λ (asks : Body). AddsTo asks one.group object) (sym is) mended) in
-      by_group one.group asked refl reasons mended plain ever
-    where
-      by_group : (group : List (ObjectId × ℕ)) (asked : Asked) → asked.act ≡ None
-          → (mends : Mends mid new asked target group one.candidates) → MendsOn target group object
-          → (setting trace).plain (one.candidates object) ≡ true
-          → IsEverAccepted trace object (one.candidates object) → Stores trace object new (one.candidates object)
-      by_group [] asked no_act mends is_target plain ever =
-          mended_stores asked object (one.candidates object) mends.version no_act (mends.remedy object is_target)
-          (mends.stored ∙ ap (λ (it : ObjectId). mid.versions ++ stored_if it (one.candidates it).stamp mends.version)
-          is_target) plain ever
-      by_group (member ∷ later) asked no_act mends named plain ever =
-          let none : mends.version ≡ None = group_stores_none mid new asked target member later one.candidates mends in
-          mended_stores asked object (one.candidates object) None no_act
-          (subst (IsRemedy mid asked object (one.candidates object)) none (mends.remedy object named))
-          (mends.stored ∙ ap (λ (it : Option ObjState). mid.versions
-          ++ stored_if target (one.candidates target).stamp it) none) plain ever
+      mended_stores asked object (one.candidates object) (reasons.versions object) refl (reasons.remedy object mended)
+      (λ version has none.
+      version_of_mended mid new one.candidates reasons.versions target one.group object version reasons.stored mended
+      has none) plain ever
 
   one_stores : (object : ObjectId) → AddsTo one.asks one.group object
       → (candidate : Candidate) → (setting trace).plain candidate ≡ true
@@ -450,19 +438,39 @@ module _ (trace : Trace) (laws : Laws (setting trace)) (joint : Joint (setting t
         act_adds parts is performs later (λ object named. among object (inr named)),
       )
 
-  mend_adds : (target : ObjectId) → AddsTo one.asks one.group target → (stored : Option ObjState)
-      → IsRemedy mid (asked_of one.client one.number one.sets (body.Mend target)) target (one.candidates target) stored
-      → AllByRecursion IsTrue (stored_if target (one.candidates target).stamp stored)
+  mend_adds : (target object : ObjectId) → AddsTo one.asks one.group object → (found : Option ObjState)
+      → IsRemedy mid (asked_of one.client one.number one.sets (body.Mend target)) object (one.candidates object) found
+      → AllByRecursion IsTrue (stored_if object (one.candidates object).stamp found)
   unfolding setting
-  mend_adds target adds stored (IsRemedy.inline_barrier barrier found) = tt
-  mend_adds target adds stored (IsRemedy.inline_method its plain found found_so) = tt
-  mend_adds target adds stored (IsRemedy.barrier barrier made) = tt
-  mend_adds target adds stored (IsRemedy.copy latest its plain made single barrier is_latest full found) = (
-    fresh_of_stamp target adds plain its
-        (copied_has (asked_of one.client one.number one.sets (body.Mend target)) target (one.candidates target) its
-        refl (ap not plain) made (now_accepted target adds) found),
-    tt,
-  )
+  mend_adds target object adds found (IsRemedy.inline_barrier barrier shown) = tt
+  mend_adds target object adds found (IsRemedy.inline_method its plain shown found_so) = tt
+  mend_adds target object adds found (IsRemedy.barrier barrier made) = tt
+  mend_adds target object adds found (IsRemedy.copy latest its plain made together barrier is_latest full is) =
+      let asked : Asked = asked_of one.client one.number one.sets (body.Mend target) in (
+        fresh_of_stamp object adds plain its
+            (copied_has asked (copied_on mid.keys.bounds asked object) object (one.candidates object) its refl
+            (ap not plain) made (now_accepted object adds) is),
+        tt,
+      )
+
+  all_both : (first second : List Stored) → AllByRecursion IsTrue first → AllByRecursion IsTrue second
+      → AllByRecursion IsTrue (first ++ second)
+  all_both [] second all more = more
+  all_both (it ∷ later) second all more = (all.0, all_both later second all.1 more)
+
+  mends_add : (target : ObjectId) → one.asks ≡ body.Mend target
+      → (mends : Mends mid new (asked_of one.client one.number one.sets (body.Mend target)) target one.group
+      one.candidates) → (objects : List ObjectId)
+      → ((object : ObjectId) → Lists objects object → MendsOn target one.group object)
+      → AllByRecursion IsTrue (stored_mended one.candidates mends.versions objects)
+  mends_add target is mends [] among = tt
+  mends_add target is mends (object ∷ later) among =
+      let mended : MendsOn target one.group object = among object (inl refl) in
+      all_both (stored_if object (one.candidates object).stamp (mends.versions object))
+      (stored_mended one.candidates mends.versions later)
+      (mend_adds target object (subst (λ (asks : Body). AddsTo asks one.group object) (sym is) mended)
+      (mends.versions object) (mends.remedy object mended))
+      (mends_add target is mends later (λ other there. among other (inr there)))
 
   pub request_adds : (asks : Body) → one.asks ≡ asks
       → Reasons mid new (asked_of one.client one.number one.sets asks) asks one.group one.candidates
@@ -473,19 +481,7 @@ module _ (trace : Trace) (laws : Laws (setting trace)) (joint : Joint (setting t
   request_adds (body.Ask parts) is reasons more adds = absurd reasons
   request_adds (body.Mend target) is reasons more adds =
       subst (AllByRecursion IsTrue) (same_behind mid.versions _ more (sym reasons.stored ∙ adds))
-      (by_group one.group refl reasons)
-    where
-      by_group : (group : List (ObjectId × ℕ)) → one.group ≡ group
-          → (mends : Mends mid new (asked_of one.client one.number one.sets (body.Mend target)) target group
-          one.candidates) → AllByRecursion IsTrue (stored_if target (one.candidates target).stamp mends.version)
-      by_group [] none mends =
-          mend_adds target (subst (λ (asks : Body). AddsTo asks one.group target) (sym is)
-          (subst (λ (group : List (ObjectId × ℕ)). MendsOn target group target) (sym none) refl)) mends.version
-          (mends.remedy target refl)
-      by_group (member ∷ later) group mends =
-          subst (λ (it : Option ObjState). AllByRecursion IsTrue (stored_if target (one.candidates target).stamp it))
-          (sym (group_stores_none mid new (asked_of one.client one.number one.sets (body.Mend target)) target member
-          later one.candidates mends)) tt
+      (mends_add target is reasons (mended_objects target one.group) (listed_mended target one.group))
 
   pub moved-versioned : IsVersioned trace (count + 1) new
   moved-versioned = record {

@@ -1,7 +1,7 @@
 -- The answer to what was taken is the one to what the source held.
 use Rattle.std.proofs.Common.{refl}
-use Rattle.qu_cli.specs.declared.command.Command.TheVariants.{Live}
-use Rattle.qu_cli.proofs.EndFacts.{report_refused, report_complete, report_done, report_short, refusal_refused, refusal_complete, torn_refused}
+use Rattle.qu_words.specs.declared.command.Command.TheVariants.{Live}
+use Rattle.qu_cli.proofs.EndFacts.{report_refused, report_complete, report_done, report_short, refusal_bad, refusal_refused, refusal_complete, torn_refused}
 use Rattle.qu_cli.proofs.answering_live.answer_live.Goals as goal
 
 pub returns-in-Ok-clause-refused : goal.returns-in-Ok-clause-refused
@@ -19,7 +19,7 @@ pub returns-in-Ok-clause-done : goal.returns-in-Ok-clause-done
 returns-in-Ok-clause-done g c = λ is.
     report_done _ _ _ _ _ _ Live c.in-Ok-Report.trace c.in-Ok-Report.text
     refl (rw c.in-Ok-Report.field-0-is at c.in-Ok-Report.ensures.outputs)
-    c.with_trace.ensures.trace (rw c.as_slice.ensures at c.in-Ok.ensures.whole)
+    c.with_trace.ensures.trace (rw c.as_slice.ensures at c.in-Ok.ensures.whole) c.in-Ok.ensures.calm
 
 pub returns-in-Ok-Report-clause-write_fault : goal.returns-in-Ok-Report-clause-write_fault
 returns-in-Ok-Report-clause-write_fault g c = λ is.
@@ -37,7 +37,7 @@ returns-in-Ok-Refusal-clause-refused g c =
     let answers = rw c.in-Ok-Refusal.field-0-is at c.in-Ok-Refusal.ensures.outputs in
     refusal_refused _ _ _ _ _ _ Live answers.script _ answers.output_is.bad
     refl answers.takes answers.output_is.refuses answers.output_is.tells
-    c.with_hint.ensures.0 (rw c.as_bytes.ensures.value at c.tell_text.ensures)
+    c.with_hint.ensures.0 (rw c.as_slice-in-Ok-Refusal.ensures at c.tell_text.ensures)
 
 pub returns-in-Ok-Refusal-clause-complete : goal.returns-in-Ok-Refusal-clause-complete
 returns-in-Ok-Refusal-clause-complete g c =
@@ -48,3 +48,10 @@ returns-in-Ok-Refusal-clause-complete g c =
 pub returns-clause-refused : goal.returns-clause-refused
 returns-clause-refused g c =
     torn_refused _ _ _ _ _ _ Live refl (rw c.in-Err-Torn.field-0-is at c.in-Err-Torn.ensures.torn)
+
+pub returns-in-Ok-Refusal-clause-bad_script : goal.returns-in-Ok-Refusal-clause-bad_script
+returns-in-Ok-Refusal-clause-bad_script g c = λ is.
+    let answers = rw c.in-Ok-Refusal.field-0-is at c.in-Ok-Refusal.ensures.outputs in
+    refusal_bad _ _ _ _ _ Live answers.script _ answers.output_is.bad
+    refl answers.takes answers.output_is.refuses answers.output_is.tells
+    (rw c.as_slice-in-Ok-Refusal.ensures at c.tell_text.ensures)

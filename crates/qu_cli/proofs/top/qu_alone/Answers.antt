@@ -4,8 +4,8 @@ use Rattle.qu_cli.proofs.top.qu_alone.Goals as goal
 
 pub returns-clause-headline : goal.returns-clause-headline
 returns-clause-headline g c =
-    has_history c.read_alone_command.result c.answer.result.trace c.read_alone_command.ensures.sim
+    has_history c.alone_command.result c.answer.result.trace c.alone_command.ensures.reports
     c.answer.ensures.known
 
 pub returns-clause-refused : goal.returns-clause-refused
-returns-clause-refused g c = rw c.read_alone_command.ensures.value at c.answer.ensures.refused
+returns-clause-refused g c = rw c.alone_command.ensures.value at c.answer.ensures.refused

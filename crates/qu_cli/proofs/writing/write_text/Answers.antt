@@ -1,4 +1,4 @@
-use Rattle.std.proofs.Common.{arith, length-take, length-drop}
+use Rattle.std.proofs.Common.{◌∙◌, arith, length-take, length-drop}
 use Rattle.qu_cli.proofs.TransferFacts.{front_more}
 use Rattle.qu_cli.proofs.writing.write_text.Goals as goal
 
@@ -10,5 +10,5 @@ loop-at-preserved g c =
       front = front_more (known c.args.output.now).bytes (known c.loop-at.output).bytes
           (known c.write.new.self).bytes c.loop-at.at c.in_ok-at.field-0 c.args.text.now c.loop-at.invariant.front
           c.in_ok-at.ensures.writes.takes;
-      counts = omega (arith, c.loop-at.invariant.counts, c.in_ok-at.ensures.writes.counts);
+      calm = c.in_ok-at.ensures.writes.stays ∙ c.loop-at.invariant.calm;
     }

@@ -14,7 +14,7 @@ loop-index-preserved c =
     let index = c.loop-index.index in
     let earlier = take index entries in
     record {
-      text = event_step c.args.receivers.now index entries earlier c.index-entries-index.result _ _ _
+      text = event_step c.args.receivers.now c.args.order.now index entries earlier c.index-entries-index.result _ _ _
           c.loop-index-test.true
           c.index-entries-index.is refl c.loop-index.invariant.text c.in_ok-put_event.ensures.text;
       known = known_step c.args.receivers.now index entries earlier c.index-entries-index.result c.put_event.new.known

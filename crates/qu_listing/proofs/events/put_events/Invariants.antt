@@ -10,8 +10,8 @@ use Rattle.qu_listing.proofs.events.put_events.Given as goal
 abbrev pub invariant-loop-index : goal.invariant-loop-index
 invariant-loop-index l = record {
   text : string_bytes l.text
-      ++ lines_text (flat_map (λ place. entry_lines l.receivers (take place.0 l.entries) place.1)
+      ++ lines_text (flat_map (λ place. entry_lines l.receivers l.order (take place.0 l.entries) place.1)
       (enumerate_from l.index (drop l.index l.entries)))
-      ≡ string_bytes l.initial.text ++ lines_text (listing l.receivers l.entries);
+      ≡ string_bytes l.initial.text ++ lines_text (listing l.receivers l.order l.entries);
   known : IsSoFar l.receivers (take l.index l.entries) l.known;
 }

@@ -6,6 +6,6 @@ use Rattle.qu_rows.proofs.rows.Rows.held_keys.Given as goal
 
 abbrev pub invariant-loop-one : goal.invariant-loop-one
 invariant-loop-one l = record {
-  held : list_all (held_on l.self l.asked) (take l.one-index l.seen) ≡ true;
+  held : list_all (held_on l.self l.asked l.group) (take l.one-index l.seen) ≡ true;
   keys : l.keys ≡ fresh_keys l.asked (take l.one-index l.seen);
 }

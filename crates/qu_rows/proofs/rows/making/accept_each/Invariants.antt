@@ -6,4 +6,4 @@ use Rattle.qu_rows.proofs.rows.making.accept_each.Given as goal
 
 abbrev pub invariant-loop-one : goal.invariant-loop-one
 invariant-loop-one l =
-    l.accepted ≡ filter_map (accepted_seen l.asked) (map (λ each. ((each.0).now, each.1)) l.yielded)
+    l.accepted ≡ filter_map (accepted_seen l.asked l.group) (map (λ each. ((each.0).now, each.1)) l.yielded)

@@ -1,7 +1,7 @@
 -- One delivery after another.
 use Rattle.std.proofs.Common.{rules, ◌≡◌, ◌∙◌, ◌+◌, ◌-◌, suc, Some, Ok, Err, ap, sym, arith}
 use Rattle.qu_script.specs.Events.{Playing, lowest_waiting, flow_made}
-use Rattle.qu_script.proofs.RunFacts.{fails_with, flow_more, flow_stop, flow_rests, flow_end}
+use Rattle.qu_script.proofs.RunFacts.{stops_with, flow_more, flow_stop, flow_rests, flow_end}
 use Rattle.qu_script.proofs.player.Player.flow.Goals as goal
 
 pub returns-in_default : goal.returns-in_default
@@ -18,9 +18,9 @@ returns-in_err-make_event c =
     let waits : lowest_waiting c.waiting.new.self ≡ Some c.in-Some.letter =
     ap (λ (playing : Playing). lowest_waiting playing) c.waiting.ensures.same
     ∙ sym c.in_ok-letter.ensures.found ∙ c.in-Some.is in
-    fails_with c.from_residual-in_err-make_event.result c.in_err-make_event.field-0.0 c.make_event.new.self _ is
+    stops_with c.from_residual-in_err-make_event.result c.in_err-make_event.field-0.0 c.make_event.new.self _ is
     (flow_stop c.args.number (c.args.count - (c.loop-index.index + 1)) (c.args.count - c.loop-index.index)
-    c.in-Some.letter c.waiting.new.self c.in_err-make_event.field-0.0 _ left waits
+    c.in-Some.letter c.waiting.new.self c.in_err-make_event.field-0.0 c.make_event.new.self _ left waits
     (ap (λ (playing : Playing). flow_made c.args.number (c.args.count - c.loop-index.index) playing)
     c.waiting.ensures.same ∙ c.loop-index.invariant)
     c.in_err-make_event.ensures)

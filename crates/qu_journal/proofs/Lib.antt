@@ -1,0 +1,3 @@
+pub mod Equal
+pub mod Differing
+pub mod Senders

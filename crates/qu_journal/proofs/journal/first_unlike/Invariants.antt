@@ -1,0 +1,6 @@
+-- the steps so far are the same
+use Rattle.std.proofs.Common.{◌≡◌, take}
+use Rattle.qu_journal.proofs.journal.first_unlike.Given as goal
+
+abbrev pub invariant-loop-at : goal.invariant-loop-at
+invariant-loop-at l = take l.at l.one ≡ take l.at l.other
