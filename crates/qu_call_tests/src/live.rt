@@ -28,6 +28,22 @@ fn source_of(alloc: Global, script: &str) -> Result<MemSource, Fail> {
     Ok(MemSource::new(script, 1_000, List::new(alloc)))
 }
 
+/// What `qu live` writes for a script, where it ends with this status.
+fn text_of<R: Threads + Wait + Sync>(
+    rt: &R,
+    alloc: Global,
+    script: &str,
+    status: u8,
+) -> Result<String, Fail> {
+    let words = [String::from_str(alloc, "live")?];
+    let mut input = source_of(alloc, script)?;
+    let mut output = MemSink::new(alloc, 1_000, List::new(alloc));
+    let report = qu(rt, alloc, &words, &mut input, &mut output, &OpenGate);
+    holds(report.torn.is_none(), "the run is whole")?;
+    holds(report.status == status, "the status")?;
+    Ok(String::from_utf8_lossy(alloc, output.taken())?)
+}
+
 /// Whether `qu live` ends with this status and writes this text for a script.
 fn lives<R: Threads + Wait + Sync>(
     rt: &R,
@@ -36,13 +52,8 @@ fn lives<R: Threads + Wait + Sync>(
     status: u8,
     text: &str,
 ) -> Result<(), Fail> {
-    let words = [String::from_str(alloc, "live")?];
-    let mut input = source_of(alloc, script)?;
-    let mut output = MemSink::new(alloc, 1_000, List::new(alloc));
-    let report = qu(rt, alloc, &words, &mut input, &mut output, &OpenGate);
-    holds(report.torn.is_none(), "the run is whole")?;
-    holds(report.status == status, "the status")?;
-    holds(output.taken() == text.as_bytes(), "the text")
+    let told = text_of(rt, alloc, script, status)?;
+    holds(told.as_str() == text, "the text")
 }
 
 #[test]
@@ -76,4 +87,119 @@ fn live_needs_threads(rt: HostRuntime) -> Result<(), Fail> {
     let report = qu_alone(rt.alloc(), &words, &mut input, &mut output);
     holds(report.status == 2, "the word is wrong")?;
     holds(output.taken() == USAGE.as_bytes(), "the usage")
+}
+
+const MOVING: &str =
+    "bounds 1\nseed 7\nclients 4\nobject 0 counter\nobject 1 counter\nfaulty replica 5\n";
+
+const ADD: &str = "add 0 1";
+
+/// Each fifth operation of a client.
+const MOVE: &str = "take 0 1 + add 1 1";
+
+/// The last operation of client 1.
+const BOTH: &str = "read 0 + read 1";
+
+/// Four clients with 25 calls each, of which each fifth moves 1 to the other counter; then client 1 reads both.
+fn moving_script(alloc: Global) -> Result<String, Fail> {
+    let mut script = String::from_str(alloc, MOVING)?;
+    for client in 1..5 {
+        for call in 1..26 {
+            let op = if call % 5 == 0 { MOVE } else { ADD };
+            let line = format!(in alloc; "call {client} {op}\n")?;
+            script.push_str(line.as_str())?;
+        }
+    }
+    let line = format!(in alloc; "call 1 {BOTH}\n")?;
+    script.push_str(line.as_str())?;
+    Ok(script)
+}
+
+/// Whether a line of a text is just this one.
+fn has_line(text: &str, line: &str) -> bool {
+    for one in text.lines() {
+        if one == line {
+            return true;
+        }
+    }
+    false
+}
+
+/// How many lines of a text begin so.
+fn lines_with(text: &str, front: &str) -> u64 {
+    let mut count: u64 = 0;
+    for line in text.lines() {
+        if line.starts_with(front) {
+            count = count.saturating_add(1);
+        }
+    }
+    count
+}
+
+/// Whether this operation was called for under this name, and has this answer, or was given up and has none.
+fn is_told(alloc: Global, text: &str, name: &str, op: &str, answer: &str) -> Result<bool, Fail> {
+    let call = format!(in alloc; "call {name} {op}")?;
+    let reply = format!(in alloc; "reply {name} {answer}")?;
+    let gave_up = format!(in alloc; "gaveup {name}")?;
+    Ok(
+        has_line(text, call.as_str())
+            && (has_line(text, reply.as_str()) || has_line(text, gave_up.as_str())),
+    )
+}
+
+/// The values of two counters behind the operation of this name, where it has the answer that they give.
+fn behind(
+    alloc: Global,
+    text: &str,
+    name: &str,
+    first: u64,
+    second: u64,
+) -> Result<(u64, u64), Fail> {
+    let more = first.saturating_add(1);
+    let answer = format!(in alloc; "{more}")?;
+    if is_told(alloc, text, name, ADD, answer.as_str())? {
+        return Ok((more, second));
+    }
+    let answer = format!(in alloc; "{first} + {second}")?;
+    if is_told(alloc, text, name, BOTH, answer.as_str())? {
+        return Ok((first, second));
+    }
+    let (less, more) = (first.saturating_sub(1), second.saturating_add(1));
+    let answer = format!(in alloc; "{less} + {more}")?;
+    let is_moved = is_told(alloc, text, name, MOVE, answer.as_str())?;
+    holds(is_moved, "each reply is that of its point")?;
+    Ok((less, more))
+}
+
+/// Whether the operations answer what two counters do, one after the other in the order of their points.
+fn is_in_order(alloc: Global, text: &str) -> Result<(), Fail> {
+    let (mut first, mut second) = (0, 0);
+    for line in text.lines() {
+        if let Some(name) = line.strip_prefix("point ") {
+            let (one, other) = behind(alloc, text, name, first, second)?;
+            first = one;
+            second = other;
+        }
+    }
+    Ok(())
+}
+
+#[test]
+fn live_moves_between_two_counters(rt: HostRuntime) -> Result<(), Fail> {
+    let script = moving_script(rt.alloc())?;
+    let text = text_of(&rt, rt.alloc(), script.as_str(), 0)?;
+    let text = text.as_str();
+    let replies = lines_with(text, "reply ");
+    let given_up = lines_with(text, "gaveup ");
+    holds(
+        lines_with(text, "point ") >= replies,
+        "each answered call has a point",
+    )?;
+    holds(
+        replies.saturating_add(given_up) == 101,
+        "each call has an end",
+    )?;
+    holds(lines_with(text, "open ") == 0, "none is open")?;
+    holds(has_line(text, "premises hold"), "the premises hold")?;
+    is_in_order(rt.alloc(), text)
 }

@@ -85,13 +85,14 @@ pub record HasUnsent (steps : List (Party × KeptStep)) (journal : List Filed) (
 
 -- ---- why steps are not told
 
--- why no entries tell steps in the order of their tickets: the filed ones are others, or one took what was not sent
+-- why no entries tell steps in the order of their tickets: the filed ones are others, or one took what was not sent;
+-- memory is wanted only where neither is so
 abbrev pub IsUntold : List (Party × KeptStep) → List (Party × KeptStep) → LiveFail → Type 0
 IsUntold merged filed (fail.Torn (torn.Moved lock held)) = ⊥
 IsUntold merged filed (fail.Torn (torn.Steps kept step)) =
     AreUnlike merged filed (kept, step) ⊎ ((merged ≡ filed) × TakesUnsent merged (map as_filed filed) kept step)
 IsUntold merged filed (fail.Torn (torn.Early client letter)) = ⊥
-IsUntold merged filed fail.NoMemory = Unit {0}
+IsUntold merged filed fail.NoMemory = (merged ≡ filed) × WereSentBefore [] merged
 
 -- steps of all actors, put into the order of their tickets, each of which takes what was sent to its actor before
 pub record WereSent (steps : List (Party × KeptStep)) : Type 0 where

@@ -54,7 +54,7 @@ pub fn gather<N: RunName>(
     put_clients(&mut steps, others)?;
     let kept = by_ticket(steps)?;
     let filed = by_ticket(steps_filed(alloc, journal)?)?;
-    let entries = told(alloc, kept, filed)?;
+    let entries = tell(alloc, kept, filed)?;
     tick_in_time(alloc, &setup, entries.as_slice())?;
     Ok(Trace { setup, entries })
 }
@@ -81,9 +81,10 @@ fn are_their_own<N: RunName>(
     }
 }
 
-/// The entries that tell kept steps, where these are the filed ones, both in the order of tickets. What does not fit
-/// is taken out of the lists, so that no memory is needed to tell it.
-fn told(
+/// The entries that tell kept steps, where these are the filed ones, both in the order of tickets, and each takes what
+/// was sent to its actor. What does not fit is taken out of the lists, so that no memory is needed to tell it: want of
+/// memory is told only where all fits.
+pub fn tell(
     alloc: Global,
     kept: List<(Party, KeptStep)>,
     filed: List<(Party, KeptStep)>,

@@ -8,6 +8,6 @@ mod ticks;
 mod torn;
 
 pub use correct::{correct_clients, correct_replicas};
-pub use ending::gather;
+pub use ending::{gather, tell};
 pub use held::have_ended;
 pub use torn::{LiveFail, Torn};

@@ -100,15 +100,3 @@ named_at (x ∷ front) rest name letter found =
     ∙ slice_get-append_right x.1.letters (letters_in front)
     (length x.1.letters + place_of (front ++ rest) name) (place_of (front ++ rest) name) refl
     ∙ named_at front rest name letter (sym (at front) ∙ found))
-
--- its place among those of the steps so far is its place among those of all
-pub place_found : (front rest : Merged) (name : LetterName) (letter : Letter)
-    → letter_named front name ≡ Some letter → place_of (front ++ rest) name ≡ place_of front name
-unfolding place_of own_steps letter_kept
-place_found [] rest name letter found = absurd (none-some letter found)
-place_found (x ∷ front) rest name letter found =
-    let more : ℕ → Bool → ℕ = λ later here. cond here name.place (length x.1.letters + later) in
-    named_cases (place_of (x ∷ (front ++ rest)) name ≡ place_of (x ∷ front) name) x name
-    (λ is at. ap (more (place_of (front ++ rest) name)) is ∙ sym (ap (more (place_of front name)) is))
-    (λ is at. ap (λ (it : ℕ). more it (is_step_named name x))
-    (place_found front rest name letter (sym (at front) ∙ found)))

@@ -1,15 +1,12 @@
 -- Steps that take what was sent before them are told by the entries that name these letters.
-use Rattle.std.proofs.Common.{◌≡◌, ℕ, zero, suc, ◌+◌, ◌<◌, List, [], ◌∷◌, ◌++◌, length, map, take, drop, get_or, Some, refl, sym, ap, subst, ◌∙◌, append_assoc, append-nil, arith}
+use Rattle.std.proofs.Common.{◌≡◌, ℕ, suc, ◌+◌, ◌<◌, List, [], ◌∷◌, ◌++◌, length, map, take, get_or, Some, refl, sym, ap, subst, ◌∙◌, append_assoc, append-nil, arith}
 use Rattle.std.specs.Prelude.{slice_get}
 use Rattle.std.proofs.lemmas.Grind.{flat_map-append}
-use Rattle.std.proofs.lemmas.List.{take_more, take-append-drop, map-append}
-use Rattle.std.proofs.lemmas.Option.{none-some, same_Some}
+use Rattle.std.proofs.lemmas.List.{take_more}
 use Rattle.qu_base.specs.declared.party.Party.{Party}
 use Rattle.qu_base.specs.declared.party.Party.TheVariants as party
 use Rattle.qu_frames.specs.declared.frame.Letter.{Letter}
-use Rattle.qu_trace.specs.declared.event.Event.{Event}
 use Rattle.qu_trace.specs.declared.event.Event.TheVariants as event
-use Rattle.qu_trace.specs.declared.trace.Entry.{Entry}
 use Rattle.qu_world.specs.State.{numbered}
 use Rattle.qu_frames.specs.declared.input.LetterName.{LetterName}
 use Rattle.qu_frames.specs.declared.input.Input.{Input}
@@ -18,7 +15,7 @@ use Rattle.qu_replay.specs.declared.kept_step.KeptStep.{KeptStep}
 use Rattle.qu_replay.specs.Told.{IsDelivery, IsEventOf, AreTold}
 use Rattle.qu_replay.specs.Merged.{place_of, event_of, entry_of, merged_entries, letters_in}
 use Rattle.qu_replay.specs.Entries.{IsNamedLetter, WasSentBefore, WereSentBefore}
-use Rattle.qu_replay.proofs.Naming.{named_at, place_found}
+use Rattle.qu_replay.proofs.Naming.{named_at}
 
 abbrev Merged : Type 0
 Merged = List (Party × KeptStep)
@@ -49,18 +46,6 @@ event_told all front rest (party.Client me) Tick split sent = refl
 event_told all front rest (party.Client me) (Invoke op) split sent = refl
 event_told all front rest (party.Replica me) Tick split sent = absurd sent
 event_told all front rest (party.Replica me) (Invoke op) split sent = absurd sent
-
--- the event of a step is known from the steps before it
-event_before : (all front rest : Merged) (me : Party) (input : Input) → all ≡ front ++ rest
-    → WasSentBefore front me input
-    → event_of all me input ≡ event_of front me input
-event_before all front rest me (Frame name text) split sent =
-    ap (λ (it : Merged). event.Deliver (place_of it name + 1)) split
-    ∙ ap (λ (it : ℕ). event.Deliver (it + 1)) (place_found front rest name sent.letter sent.found)
-event_before all front rest (party.Client me) Tick split sent = refl
-event_before all front rest (party.Client me) (Invoke op) split sent = refl
-event_before all front rest (party.Replica me) Tick split sent = absurd sent
-event_before all front rest (party.Replica me) (Invoke op) split sent = absurd sent
 
 -- ---- all steps
 
@@ -108,38 +93,3 @@ pub sent_more : (all : Merged) (count : ℕ) (x : Party × KeptStep) → count <
     → WereSentBefore [] (take (count + 1) all)
 sent_more all count x within is sent here =
     subst (WereSentBefore []) (sym (taken_more all count x within is)) (sent_push [] (take count all) x sent here)
-
-pub told_more : (all : Merged) (count : ℕ) (x : Party × KeptStep) (entries new : List Entry) (event : Event)
-    (entry : Entry) → count < length all → x ≡ get_or all count x
-    → entries ≡ map (entry_of all) (take count all)
-    → WasSentBefore (take count all) x.0 x.1.input → event ≡ event_of (take count all) x.0 x.1.input
-    → entry ≡ record { event = event; letters = x.1.letters; ended = x.1.ended }
-    → new ≡ entries ++ entry ∷ [] → new ≡ map (entry_of all) (take (count + 1) all)
-told_more all count x entries new event entry within is so_far here event_is entry_is pushed =
-    let split : all ≡ take count all ++ drop count all = sym (take-append-drop count all) in
-    let told : event ≡ event_of all x.0 x.1.input =
-    event_is ∙ sym (event_before all (take count all) (drop count all) x.0 x.1.input split here) in
-    let one : entry ≡ entry_of all x =
-    entry_is ∙ ap (λ (it : Event). record { event = it; letters = x.1.letters; ended = x.1.ended }) told in
-    pushed
-    ∙ ap (λ (it : List Entry). it ++ entry ∷ []) so_far
-    ∙ ap (λ (it : Entry). map (entry_of all) (take count all) ++ it ∷ []) one
-    ∙ sym (map-append (entry_of all) (take count all) (x ∷ []))
-    ∙ ap (map (entry_of all)) (sym (taken_more all count x within is))
-
--- where all were sent, no step is unsent
-sent_from : (front xs : Merged) (count : ℕ) (x : Party × KeptStep) → WereSentBefore front xs
-    → slice_get xs count ≡ Some x
-    → WasSentBefore (front ++ take count xs) x.0 x.1.input
-unfolding WereSentBefore
-sent_from front [] count x sent at = absurd (none-some x at)
-sent_from front (y ∷ xs) zero x sent at =
-    subst (λ (it : Party × KeptStep). WasSentBefore (front ++ []) it.0 it.1.input) (same_Some y x at)
-    (subst (λ (it : Merged). WasSentBefore it y.0 y.1.input) (sym (append-nil front)) sent.0)
-sent_from front (y ∷ xs) (suc count) x sent at =
-    subst (λ (it : Merged). WasSentBefore it x.0 x.1.input) (append_assoc front (y ∷ []) (take count xs))
-    (sent_from (front ++ y ∷ []) xs count x sent.1 at)
-
-pub sent_at : (all : Merged) (count : ℕ) (x : Party × KeptStep) → WereSentBefore [] all → slice_get all count ≡ Some x
-    → WasSentBefore (take count all) x.0 x.1.input
-sent_at all count x sent at = sent_from [] all count x sent at

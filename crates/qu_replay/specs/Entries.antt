@@ -46,10 +46,10 @@ pub record IsFirstUnsent (steps : List (Party × KeptStep)) (at : ℕ) : Type 0 
   pub unsent : ¬ (WasSentBefore (take at steps) step.0 step.1.input)
   pub sent : WereSentBefore [] (take at steps)
 
--- why no entries tell these steps
+-- why no entries tell these steps: memory is wanted only where each takes what was sent
 abbrev pub IsEntriesFail : List (Party × KeptStep) → EntriesFail → Type 0
 IsEntriesFail steps (Unsent at) = IsFirstUnsent steps at
-IsEntriesFail steps NoMemory = Unit {0}
+IsEntriesFail steps NoMemory = WereSentBefore [] steps
 
 -- what the correct parties of a setup kept, in the order of tickets, was sent before it was taken
 abbrev pub KeptWasSent : Type 0

@@ -1,8 +1,9 @@
 ghost use Rattle.std.specs.Prelude.{◌≡◌, ◌+◌, ◌-◌, ◌^◌, [], min, IfOk, IfErr, MatchOption};
+ghost use Rattle.std.specs.Bool.{MatchBool};
 ghost use Rattle.std.specs.Option.{option_copied};
 ghost use Rattle.qu_replay.specs.Told.{AreTold};
 ghost use Rattle.qu_replay.specs.Merged.{place_of, event_of, merged_entries, is_step_named};
-ghost use Rattle.qu_replay.specs.Entries.{letter_named, IsNamedLetter, WasSentBefore, WereSentBefore, IsEntriesFail};
+ghost use Rattle.qu_replay.specs.Entries.{letter_named, IsNamedLetter, WasSentBefore, WereSentBefore, IsFirstUnsent, IsEntriesFail};
 
 use crate::KeptStep;
 use qu_base::{List, NoMemory, Party};
@@ -17,7 +18,8 @@ pub enum EntriesFail {
     /// it sent the letter that its frame names, or that letter is to another party or has other bytes; or a replica
     /// ticks or begins an operation.
     Unsent(usize),
-    /// Also where there are more letters than 64 bits count, which no memory holds.
+    /// Each step takes what was sent to its actor before. Also where there are more letters than 64 bits count, which
+    /// no memory holds.
     NoMemory,
 }
 
@@ -32,20 +34,66 @@ impl From<NoMemory> for EntriesFail {
     }
 }
 
+/// The place, counted from 0, of the first of these steps that takes what was not sent to its actor before. It is found
+/// without memory.
+pub fn first_unsent(steps: &[(Party, KeptStep)]) -> Option<usize>
+    ensures { MatchOption result (WereSentBefore [] steps.now) (IsFirstUnsent steps.now) }
+{
+    for (at, one) in steps.iter().enumerate() {
+        let (actor, step) = one;
+        if !was_sent(&steps[..at], *actor, &step.input) {
+            return Some(at);
+        }
+    }
+    None
+}
+
+/// Whether these steps sent its actor what an input has; clients tick and begin operations by themselves.
+fn was_sent(before: &[(Party, KeptStep)], actor: Party, input: &Input) -> bool
+    ensures { MatchBool result (WasSentBefore before.now actor input.now)
+        (¬ (WasSentBefore before.now actor input.now)) }
+{
+    match (input, actor) {
+        (Input::Frame(name, text), _) => is_letter(before, actor, *name, text),
+        (Input::Tick | Input::Invoke(_), Party::Client(_)) => true,
+        (Input::Tick | Input::Invoke(_), Party::Replica(_)) => false,
+    }
+}
+
+/// Whether these steps sent the letter of this name to this party with these bytes.
+fn is_letter(steps: &[(Party, KeptStep)], to: Party, name: LetterName, text: &List<u8>) -> bool
+    ensures { MatchBool result (IsNamedLetter steps.now to name text.now)
+        (¬ (IsNamedLetter steps.now to name text.now)) }
+{
+    match named_letter(steps, name) {
+        Some(letter) if letter.to == to && letter.text == *text => true,
+        _ => false,
+    }
+}
+
 /// The entries that tell these steps, one each, in their order. A frame is the delivery of the letter that it names.
+/// Memory is wanted only where each step takes what was sent to its actor before.
 pub fn entries_of(alloc: Global, steps: &[(Party, KeptStep)]) -> Result<List<Entry>, EntriesFail>
     ensures merged { IfOk result (λ entries. entries ≡ merged_entries steps.now) }
     ensures sent { IfOk result (λ entries. WereSentBefore [] steps.now) }
     ensures told { IfOk result (λ entries. AreTold [] steps.now entries) }
     ensures err { IfErr result (IsEntriesFail steps.now) }
 {
+    if let Some(at) = first_unsent(steps) {
+        return Err(EntriesFail::Unsent(at));
+    }
+    Ok(merged_entries(alloc, steps)?)
+}
+
+/// The entries of steps that take what was sent.
+fn merged_entries(alloc: Global, steps: &[(Party, KeptStep)]) -> Result<List<Entry>, NoMemory>
+    ensures { IfOk result (λ entries. entries ≡ merged_entries steps.now) }
+{
     let mut entries = List::new(alloc);
-    for (at, one) in steps.iter().enumerate() {
+    for one in steps {
         let (actor, step) = one;
-        match event_after(alloc, &steps[..at], *actor, &step.input)? {
-            Some(event) => entries.push(entry(alloc, event, step)?)?,
-            None => return Err(EntriesFail::Unsent(at)),
-        }
+        let event = event_of(alloc, steps, *actor, &step.input)?;
+        entries.push(entry(alloc, event, step)?)?;
     }
     Ok(entries)
 }
@@ -63,43 +111,23 @@ fn entry(alloc: Global, event: Event, step: &KeptStep) -> Result<Entry, NoMemory
     })
 }
 
-/// The event of an input that these steps sent to its actor.
-fn event_after(
+/// The event of an input, where these are all steps. A replica neither ticks nor begins an operation.
+fn event_of(
     alloc: Global,
-    before: &[(Party, KeptStep)],
+    steps: &[(Party, KeptStep)],
     actor: Party,
     input: &Input,
-) -> Result<Option<Event>, NoMemory>
-    ensures { IfOk result (λ found. MatchOption found (¬ (WasSentBefore before.now actor input.now))
-        (λ event. WasSentBefore before.now actor input.now × (event ≡ event_of before.now actor input.now))) }
+) -> Result<Event, NoMemory>
+    ensures { IfOk result (λ event. event ≡ event_of steps.now actor input.now) }
 {
     Ok(match (input, actor) {
-        (Input::Frame(name, text), _) => {
-            delivered_number(before, actor, *name, text)?.map(Event::Deliver)
+        (Input::Frame(name, _), _) => {
+            Event::Deliver(place_of(steps, *name).checked_add(1).ok_or(NoMemory)?)
         }
-        (Input::Tick, Party::Client(me)) => Some(Event::Tick(me)),
-        (Input::Invoke(op), Party::Client(me)) => Some(Event::Invoke(me, op.copy(alloc)?)),
-        (Input::Tick | Input::Invoke(_), Party::Replica(_)) => None,
+        (Input::Tick, Party::Client(me)) => Event::Tick(me),
+        (Input::Invoke(op), Party::Client(me)) => Event::Invoke(me, op.copy(alloc)?),
+        (Input::Tick | Input::Invoke(_), Party::Replica(_)) => Event::Deliver(0),
     })
-}
-
-/// The number of the letter of this name, where these steps sent it to this party with these bytes.
-fn delivered_number(
-    steps: &[(Party, KeptStep)],
-    to: Party,
-    name: LetterName,
-    text: &List<u8>,
-) -> Result<Option<u64>, NoMemory>
-    ensures { IfOk result (λ found. MatchOption found (¬ (IsNamedLetter steps.now to name text.now))
-        (λ number. IsNamedLetter steps.now to name text.now × (number ≡ place_of steps.now name + 1))) }
-{
-    match named_letter(steps, name) {
-        Some(letter) if letter.to == to && letter.text == *text => {
-            let number = place_of(steps, name).checked_add(1).ok_or(NoMemory)?;
-            Ok(Some(number))
-        }
-        _ => Ok(None),
-    }
 }
 
 /// The letter of this name that one of these steps sent.
