@@ -243,6 +243,10 @@ class Replica:
 
     def decide_mend(self, given):
         target, classes = given.request.body.target, given.plans.classes
+        evidence = given.plans.evidence(target) if classes[target].code == COPY else ()
+        missing = self.lacking(evidence)
+        if missing:
+            return missing
         added = self.to_add(given, target)
         if isinstance(added, Refusal):
             return added
@@ -265,7 +269,10 @@ class Replica:
         if refused:
             return refused
         for addition in added:
-            self.accept(addition.object, addition.candidate, self.versions.get((addition.object, addition.wanted)))
+            version = self.versions.get((addition.object, addition.wanted))
+            if version is not None and addition.is_fresh:
+                version = linked(version, addition.object, addition.candidate)
+            self.accept(addition.object, addition.candidate, version)
         return mended
 
     def late(self, classes, target, added):
@@ -295,7 +302,8 @@ class Replica:
 
     def to_copy(self, given, target):
         """The additions that copy a target, or the Refusal of its plan."""
-        plan = given.plans.plan(target)
+        links = {version: dict(self.versions[version].links) for version in given.plans.evidence(target)}
+        plan = given.plans.plan(target, links)
         if isinstance(plan, Refusal):
             return plan
         times = {known: given.plans.classes[known].latest.time + 1 for known, _ in plan}

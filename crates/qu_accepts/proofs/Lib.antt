@@ -11,3 +11,4 @@ pub mod Accepting
 pub mod Together
 pub mod KnownObjects
 pub mod Handled
+pub mod StoredSo

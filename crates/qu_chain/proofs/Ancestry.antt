@@ -6,7 +6,7 @@ use Rattle.qu_stamp.specs.declared.candidate.Candidate.{Candidate}
 use Rattle.qu_stamp.specs.Candidate.{opening}
 use Rattle.qu_claims.specs.Count.{count}
 use Rattle.qu_claims.specs.Setting.{Setting, acceptors, IsAccepted, IsEstablished, IsAttested, IsAncestor}
-use Rattle.qu_chain.specs.Laws.{Sizes, Laws}
+use Rattle.qu_chain.specs.Laws.{Sizes, Lasting, StampsAreOne, Laws}
 use Rattle.qu_claims.specs.Decided.{IsDecided}
 use Rattle.qu_chain.proofs.Counting.{count-more, count-some, count-not, Passing, passing}
 
@@ -56,7 +56,7 @@ module _ (setting : Setting) where
       IsAncestor.through between third prior plain_between attested_between
       (ancestor-chain time object first second between plain attested lower upper)
 
-module _ (setting : Setting) (laws : Laws setting) where
+module _ (setting : Setting) (lasting : Lasting setting) where
   pub accepted-later : (early late : ℕ) → early ≤ late → (object : ObjectId) (replica : ℕ) (candidate : Candidate)
       → setting.accepted early object replica candidate ≡ true
       → setting.accepted late object replica candidate ≡ true
@@ -67,7 +67,7 @@ module _ (setting : Setting) (laws : Laws setting) where
       elim (cases_eq early (suc late)) [
         | inl same ↦ ap (λ time. setting.accepted time object replica candidate) (sym same) ∙ held
         | inr other ↦
-            laws.grows late object replica candidate
+            lasting.grows late object replica candidate
             (accepted-later early late (omega arith) object replica candidate held)
       ]
 
@@ -100,14 +100,14 @@ module _ (setting : Setting) (laws : Laws setting) where
   pub attested_by_established : (time : ℕ) (object : ObjectId) (candidate : Candidate)
       → IsEstablished setting time object candidate → IsAttested setting time object candidate
   attested_by_established time object candidate established =
-      let sizes : Sizes setting = laws.sizes in
+      let sizes : Sizes setting = lasting.sizes in
       omega arith
 
   -- what is attested is accepted
   pub accepted_by_attested : (time : ℕ) (object : ObjectId) (candidate : Candidate)
       → IsAttested setting time object candidate → IsAccepted setting time object candidate
   accepted_by_attested time object candidate attested =
-      let sizes : Sizes setting = laws.sizes in
+      let sizes : Sizes setting = lasting.sizes in
       omega arith
 
   pub ancestor-later : (early late : ℕ) → early ≤ late → (object : ObjectId) (first second : Candidate)
@@ -132,15 +132,29 @@ module _ (setting : Setting) (laws : Laws setting) where
       accepted_by_attested time object candidate (attested_by_established time object candidate established)
   accepted_by_decided time object candidate (IsDecided.prior same child decided prior accepted) = accepted
 
+module _ (setting : Setting) (lasting : Lasting setting) (one : StampsAreOne setting) where
+  -- accepted candidates of one stamp are one
+  pub one_candidate : (early late : ℕ) → early ≤ setting.last → late ≤ setting.last
+      → (object : ObjectId) (candidate other : Candidate)
+      → IsAccepted setting early object candidate → IsAccepted setting late object other
+      → candidate.stamp ≡ other.stamp → candidate ≡ other
+  one_candidate early late bound other_bound object candidate other accepted other_accepted same =
+      let it : Acceptor setting early object candidate = acceptor setting early object candidate accepted in
+      let its : Acceptor setting late object other = acceptor setting late object other other_accepted in
+      one object it.replica its.replica candidate other it.good its.good it.within its.within
+      (accepted-later setting lasting early setting.last bound object it.replica candidate it.accepted)
+      (accepted-later setting lasting late setting.last other_bound object its.replica other its.accepted) same
+
+module _ (setting : Setting) (laws : Laws setting) where
   -- the opening candidate is established from the first time on
   pub opening_established : (time : ℕ) (object : ObjectId) → setting.known object ≡ true
       → IsEstablished setting time object opening
   opening_established time object known =
-      let sizes : Sizes setting = laws.sizes in
+      let sizes : Sizes setting = laws.lasting.sizes in
       let all : count setting.n setting.good ≤ acceptors setting 0 object opening =
       count-more setting.n setting.good (accepts setting 0 object opening) (λ replica within good.
       and_from (setting.good replica) (setting.accepted 0 object replica opening) good
       (laws.begins object replica known good within)) in
       let others : count setting.n setting.good + count setting.n (λ replica. not (setting.good replica)) ≡ setting.n =
       count-not setting.n setting.good in
-      established-later 0 time (omega arith) object opening (omega arith)
+      established-later setting laws.lasting 0 time (omega arith) object opening (omega arith)

@@ -9,9 +9,9 @@ use Rattle.qu_claims.specs.Setting.{Setting, IsAccepted, IsEstablished, IsAttest
 use Rattle.qu_chain.specs.Laws.{Laws}
 use Rattle.qu_claims.specs.Decided.{IsDecided}
 use Rattle.qu_chain.specs.Joint.{Joint}
-use Rattle.qu_chain.proofs.Ancestry.{accepted_by_attested, attested_by_established, attested-later, accepted_by_decided, ancestor-chain, some-later}
+use Rattle.qu_chain.proofs.Ancestry.{accepted_by_attested, attested_by_established, attested-later, accepted_by_decided, ancestor-chain, some-later, one_candidate}
 use Rattle.qu_chain.proofs.Established.{established_comparable}
-use Rattle.qu_chain.proofs.Parents.{rests, one_candidate, ancestor-not_above}
+use Rattle.qu_chain.proofs.Parents.{rests, ancestor-not_above}
 
 -- a candidate without barrier that is attested
 pub record IsSound (setting : Setting) (time : ℕ) (object : ObjectId) (candidate : Candidate) : Type 0 where
@@ -37,15 +37,15 @@ module _ (setting : Setting) (laws : Laws setting) (all : Joint setting) where
       → IsAccepted setting time object candidate → IsSound setting time object candidate
   sound_base time bound object candidate child sound prior accepted =
       let child_accepted : IsAccepted setting time object child =
-      accepted_by_attested setting laws time object child sound.attested in
+      accepted_by_attested setting laws.lasting time object child sound.attested in
       elim (rests setting laws all time bound object candidate child child_accepted sound.plain
-      (some-later setting laws time setting.last bound object candidate accepted) prior) [
+      (some-later setting laws.lasting time setting.last bound object candidate accepted) prior) [
         | inl both ↦ subst (IsSound setting time object) (sym both.0) sound
         | inr it ↦
             let within : it.first.time < time = it.first.within in
             record {
               plain = it.plain_base;
-              attested = attested-later setting laws it.first.time time (omega arith) object candidate it.attested;
+              attested = attested-later setting laws.lasting it.first.time time (omega arith) object candidate it.attested;
             }
       ]
 
@@ -53,7 +53,7 @@ module _ (setting : Setting) (laws : Laws setting) (all : Joint setting) where
   pub decided_sound : (time : ℕ) → time ≤ setting.last → (object : ObjectId) (candidate : Candidate)
       → IsDecided setting time object candidate → IsSound setting time object candidate
   decided_sound time bound object candidate (IsDecided.established same plain established) =
-      record { plain = plain; attested = attested_by_established setting laws time object candidate established }
+      record { plain = plain; attested = attested_by_established setting laws.lasting time object candidate established }
   decided_sound time bound object candidate (IsDecided.prior same child decided prior accepted) =
       sound_base time bound object candidate child (decided_sound time bound object child decided) prior accepted
 
@@ -67,14 +67,14 @@ module _ (setting : Setting) (laws : Laws setting) (all : Joint setting) where
       → IsDecided setting time object child → IsDecided setting time object candidate
   decided_prior time bound object candidate child accepted prior decided =
       elim (rests setting laws all time bound object candidate child
-      (accepted_by_decided setting laws time object child decided)
+      (accepted_by_decided setting laws.lasting time object child decided)
       (decided_plain time bound object child decided) accepted prior) [
         | inl both ↦ subst (IsDecided setting time object) (sym both.0) decided
         | inr it ↦
             let within : it.first.time < time = it.first.within in
             IsDecided.prior candidate child decided prior
-            (some-later setting laws it.first.time time (omega arith) object candidate
-            (accepted_by_attested setting laws it.first.time object candidate it.attested))
+            (some-later setting laws.lasting it.first.time time (omega arith) object candidate
+            (accepted_by_attested setting laws.lasting it.first.time object candidate it.attested))
       ]
 
   -- and so is each accepted ancestor
@@ -87,7 +87,7 @@ module _ (setting : Setting) (laws : Laws setting) (all : Joint setting) where
       (IsAncestor.through between same prior plain attested ancestor) decided =
       decided_down time bound object first between accepted ancestor
       (decided_prior time bound object between second
-      (accepted_by_attested setting laws setting.last object between attested) prior decided)
+      (accepted_by_attested setting laws.lasting setting.last object between attested) prior decided)
 
   -- what lies under a candidate with a decided base is that base or lies under it, and is decided
   pub decided_under : (time : ℕ) → time ≤ setting.last → (object : ObjectId) (first base child : Candidate)
@@ -96,21 +96,21 @@ module _ (setting : Setting) (laws : Laws setting) (all : Joint setting) where
       → IsAncestor setting setting.last object first child → IsDecided setting time object first
   decided_under time bound object first base child decided base_prior accepted (IsAncestor.direct same prior) =
       subst (IsDecided setting time object)
-      (one_candidate setting laws all time setting.last bound (omega arith) object base first
-      (accepted_by_decided setting laws time object base decided) accepted (sym base_prior ∙ prior)) decided
+      (one_candidate setting laws.lasting all.one time setting.last bound (omega arith) object base first
+      (accepted_by_decided setting laws.lasting time object base decided) accepted (sym base_prior ∙ prior)) decided
   decided_under time bound object first base child decided base_prior accepted
       (IsAncestor.through between same prior plain attested ancestor) =
       decided_down time bound object first between accepted ancestor
       (subst (IsDecided setting time object)
-      (one_candidate setting laws all time setting.last bound (omega arith) object base between
-      (accepted_by_decided setting laws time object base decided)
-      (accepted_by_attested setting laws setting.last object between attested) (sym base_prior ∙ prior)) decided)
+      (one_candidate setting laws.lasting all.one time setting.last bound (omega arith) object base between
+      (accepted_by_decided setting laws.lasting time object base decided)
+      (accepted_by_attested setting laws.lasting setting.last object between attested) (sym base_prior ∙ prior)) decided)
 
   one : (object : ObjectId) (candidate other : Candidate)
       → IsAccepted setting setting.last object candidate → IsAccepted setting setting.last object other
       → candidate.stamp ≡ other.stamp → candidate ≡ other
   one object candidate other accepted other_accepted same =
-      one_candidate setting laws all setting.last setting.last (omega arith) (omega arith) object candidate other
+      one_candidate setting laws.lasting all.one setting.last setting.last (omega arith) (omega arith) object candidate other
       accepted other_accepted same
 
   reach_base : (object : ObjectId) (candidate child peak : Candidate) → child.prior ≡ candidate.stamp
@@ -148,7 +148,7 @@ module _ (setting : Setting) (laws : Laws setting) (all : Joint setting) where
   path_direct object first second common accepted other_accepted prior
       (IsAncestor.through between same other_prior plain attested ancestor) =
       let is_first : between ≡ first =
-      one object between first (accepted_by_attested setting laws setting.last object between attested) accepted
+      one object between first (accepted_by_attested setting laws.lasting setting.last object between attested) accepted
       (sym other_prior ∙ prior) in
       OnPath.is_above (subst (IsAncestor setting setting.last object second) is_first ancestor)
 
@@ -165,7 +165,7 @@ module _ (setting : Setting) (laws : Laws setting) (all : Joint setting) where
   path_through object first second passed common accepted other_accepted prior lower further
       (IsAncestor.through between same other_prior plain attested ancestor) =
       let is_passed : between ≡ passed =
-      one object between passed (accepted_by_attested setting laws setting.last object between attested) accepted
+      one object between passed (accepted_by_attested setting laws.lasting setting.last object between attested) accepted
       (sym other_prior ∙ prior) in
       further (subst (IsAncestor setting setting.last object second) is_passed ancestor)
 
@@ -179,7 +179,7 @@ module _ (setting : Setting) (laws : Laws setting) (all : Joint setting) where
   path_of object first second common accepted other_accepted
       (IsAncestor.through between same prior plain attested lower) ancestor =
       path_through object first second between common
-      (accepted_by_attested setting laws setting.last object between attested) other_accepted prior lower
+      (accepted_by_attested setting laws.lasting setting.last object between attested) other_accepted prior lower
       (path_of object first second between accepted other_accepted lower) ancestor
 
   -- the same where each may be the common one
@@ -211,15 +211,15 @@ module _ (setting : Setting) (laws : Laws setting) (all : Joint setting) where
       → Peak setting object first → Peak setting object second → OnPath setting object first second
   path_by_peaks object first second accepted other_accepted it its =
       let attested : IsAttested setting setting.last object it.peak =
-      attested_by_established setting laws setting.last object it.peak it.established in
+      attested_by_established setting laws.lasting setting.last object it.peak it.established in
       let its_attested : IsAttested setting setting.last object its.peak =
-      attested_by_established setting laws setting.last object its.peak its.established in
+      attested_by_established setting laws.lasting setting.last object its.peak its.established in
       elim (cases_Bool (same_stamp it.peak.stamp its.peak.stamp)) [
         | inl alike ↦
             let same : it.peak ≡ its.peak =
             one object it.peak its.peak
-            (accepted_by_attested setting laws setting.last object it.peak attested)
-            (accepted_by_attested setting laws setting.last object its.peak its_attested)
+            (accepted_by_attested setting laws.lasting setting.last object it.peak attested)
+            (accepted_by_attested setting laws.lasting setting.last object its.peak its_attested)
             (equal_by_same_stamp it.peak.stamp its.peak.stamp alike) in
             path_under object first second its.peak accepted other_accepted
             (subst (λ (top : Candidate). (first ≡ top) ⊎ IsAncestor setting setting.last object first top) same
@@ -242,8 +242,8 @@ module _ (setting : Setting) (laws : Laws setting) (all : Joint setting) where
       → OnPath setting object first second
   decided_path object first second decided other_decided =
       path_by_peaks object first second
-      (accepted_by_decided setting laws setting.last object first decided)
-      (accepted_by_decided setting laws setting.last object second other_decided)
+      (accepted_by_decided setting laws.lasting setting.last object first decided)
+      (accepted_by_decided setting laws.lasting setting.last object second other_decided)
       (peak_of object first decided) (peak_of object second other_decided)
 
   -- what is decided is totally ordered: the lower is an ancestor of the higher
@@ -258,6 +258,6 @@ module _ (setting : Setting) (laws : Laws setting) (all : Joint setting) where
         | OnPath.is_under ancestor ↦ ancestor
         | OnPath.is_above ancestor ↦
             absurd (false≢true (sym (ancestor-not_above setting laws setting.last (omega arith) object second first
-            (accepted_by_decided setting laws setting.last object first decided)
+            (accepted_by_decided setting laws.lasting setting.last object first decided)
             (decided_plain setting.last (omega arith) object first decided) ancestor) ∙ below))
       ]

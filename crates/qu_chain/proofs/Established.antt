@@ -26,7 +26,7 @@ both_accepted : (setting : Setting) → Laws setting → (object : ObjectId) (ea
     → IsEstablished setting early object first → IsAttested setting late object second
     → Both setting object early late first second
 both_accepted setting laws object early late first second established attested =
-    let sizes : Sizes setting = laws.sizes in
+    let sizes : Sizes setting = laws.lasting.sizes in
     let others : count setting.n setting.good + count setting.n (λ replica. not (setting.good replica)) ≡ setting.n =
     count-not setting.n setting.good in
     let found : Shared setting.n (accepts setting early object first) (accepts setting late object second) =
@@ -69,7 +69,7 @@ module _ (setting : Setting) (laws : Laws setting) (object : ObjectId) (first se
       → IsNew setting later object replica first → ⊥
   not_after time later replica order new_second new_first =
       let kept : setting.accepted later object replica second ≡ true =
-      accepted-later setting laws (suc time) later (omega arith) object replica second new_second.after in
+      accepted-later setting laws.lasting (suc time) later (omega arith) object replica second new_second.after in
       let above : is_below second.stamp first.stamp ≡ true =
       laws.rising later object replica first second new_first kept in
       false≢true (sym (is_below-not_back first.stamp second.stamp below) ∙ above)
@@ -162,7 +162,7 @@ chain_next setting laws time within past object first second plain_first plain_s
       after = turn.after;
       before = turn.before;
     } in
-    ancestor-later setting laws turn.time (suc time) (omega arith) object first second
+    ancestor-later setting laws.lasting turn.time (suc time) (omega arith) object first second
     (by_step setting laws object first second plain_first established below turn.time both.replica
     (past turn.time (omega arith)) plain_second new_second both.accepted_first)
 
@@ -170,7 +170,7 @@ chain_next setting laws time within past object first second plain_first plain_s
 chain_first : (setting : Setting) → Laws setting → ChainHolds setting 0
 chain_first setting laws object first second plain_first plain_second established attested below =
     let found : Acceptor setting 0 object second =
-    acceptor setting 0 object second (accepted_by_attested setting laws 0 object second attested) in
+    acceptor setting 0 object second (accepted_by_attested setting laws.lasting 0 object second attested) in
     absurd (not_at_first setting laws object first second below found.replica found.within found.good found.accepted)
 
 chain_up_to : (setting : Setting) → Laws setting → (time : ℕ) → time ≤ setting.last → (earlier : ℕ)
@@ -204,7 +204,7 @@ module _ (setting : Setting) (laws : Laws setting) (object : ObjectId) (first se
       → IsAncestor setting setting.last object first second
   established_chain below =
       chain setting laws setting.last (omega arith) object first second plain_first plain_second established_first
-      (attested_by_established setting laws setting.last object second established_second) below
+      (attested_by_established setting laws.lasting setting.last object second established_second) below
 
 -- of two established candidates with different stamps one is below the other, and is its ancestor
 pub established_comparable : (setting : Setting) → Laws setting → (object : ObjectId) (first second : Candidate)

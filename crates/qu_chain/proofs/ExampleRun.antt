@@ -293,14 +293,13 @@ one object replica other_replica candidate other accepted other_accepted same_st
 
 pub laws_met : Laws run
 laws_met = record {
-  sizes = sizes_met;
+  lasting = record { sizes = sizes_met; grows = grows };
   opens = refl;
   begins = λ object replica known good within.
       accepted_at 0 object replica 0 (omega arith) known (omega arith);
   start = λ object replica candidate good within accepted. started object replica candidate accepted;
   only_known = λ time object replica candidate good within accepted.
       known_here time object replica candidate accepted;
-  grows = grows;
   rising = λ time object replica candidate earlier new accepted.
       above time object replica candidate new earlier accepted;
   alone = λ time object replica candidate other new other_new.

@@ -10,8 +10,8 @@ use Rattle.qu_claims.specs.Decided.{IsDecided, IsDecidedBy}
 use Rattle.qu_chain.specs.Joint.{HasCompanion, IsCopied, Joint}
 use Rattle.qu_claims.specs.Groups.{HasDecided}
 use Rattle.qu_chain.proofs.Counting.{count-more}
-use Rattle.qu_chain.proofs.Ancestry.{Acceptor, acceptor, accepted_by, accepts, accepts-parts, accepted_by_attested, attested_by_established, accepted_by_decided, established-later, decided-later, some-later}
-use Rattle.qu_chain.proofs.Parents.{First, RestsOn, rests, nobody_attests, one_candidate}
+use Rattle.qu_chain.proofs.Ancestry.{Acceptor, acceptor, accepted_by, accepts, accepts-parts, accepted_by_attested, attested_by_established, accepted_by_decided, established-later, decided-later, some-later, one_candidate}
+use Rattle.qu_chain.proofs.Parents.{First, RestsOn, rests, nobody_attests}
 use Rattle.qu_chain.proofs.Deciding.{decided_plain}
 
 -- on which of the group's objects the candidate copies what its base's group has
@@ -47,7 +47,7 @@ module _ (setting : Setting) (laws : Laws setting) (all : Joint setting) where
       let it : HasCompanion setting time object replica candidate other companion.stamp =
       all.joint time object replica candidate other companion.stamp good within accepted apart is_member in
       let same : it.companion ≡ companion =
-      one_candidate setting laws all time setting.last bound (omega arith) other it.companion companion
+      one_candidate setting laws.lasting all.one time setting.last bound (omega arith) other it.companion companion
       (accepted_by setting time other it.companion
       (record { replica = replica; within = within; good = good; accepted = it.accepted_too })) known it.stamp_is in
       (it, subst (λ (one : Candidate). setting.accepted time other replica one ≡ true) same it.accepted_too)
@@ -83,7 +83,7 @@ module _ (setting : Setting) (laws : Laws setting) (all : Joint setting) where
       × Companion setting time object candidate other found =
       companion_of time bound object candidate other companion.stamp accepted apart is_member in
       subst (λ (one : Candidate). Companion setting time object candidate other one)
-      (one_candidate setting laws all time setting.last bound (omega arith) other it.0 companion it.2.accepted known
+      (one_candidate setting laws.lasting all.one time setting.last bound (omega arith) other it.0 companion it.2.accepted known
       it.1) it.2
 
   copied_of : (time : ℕ) → time ≤ setting.last → (object : ObjectId) (base candidate : Candidate)
@@ -93,8 +93,8 @@ module _ (setting : Setting) (laws : Laws setting) (all : Joint setting) where
   copied_of time bound object base candidate accepted prior first it =
       let within : first.time < time = first.within in
       let same : it.base ≡ base =
-      one_candidate setting laws all first.time setting.last (omega arith) (omega arith) object it.base base
-      (accepted_by_attested setting laws first.time object it.base it.attested) accepted (sym it.prior ∙ prior) in
+      one_candidate setting laws.lasting all.one first.time setting.last (omega arith) (omega arith) object it.base base
+      (accepted_by_attested setting laws.lasting first.time object it.base it.attested) accepted (sym it.prior ∙ prior) in
       record {
         time = first.time;
         within = within;
@@ -126,12 +126,12 @@ module _ (setting : Setting) (laws : Laws setting) (all : Joint setting) where
       → setting.member candidate other ≡ Some stamp → HasDecided setting time other stamp
   established_joint time bound object candidate other stamp plain established apart is_member =
       let accepted : IsAccepted setting time object candidate =
-      accepted_by_attested setting laws time object candidate
-      (attested_by_established setting laws time object candidate established) in
+      accepted_by_attested setting laws.lasting time object candidate
+      (attested_by_established setting laws.lasting time object candidate established) in
       let it : (found : Candidate) × (found.stamp ≡ stamp) × Companion setting time object candidate other found =
       companion_of time bound object candidate other stamp accepted apart is_member in
       let known : IsAccepted setting setting.last other it.0 =
-      some-later setting laws time setting.last bound other it.0 it.2.accepted in
+      some-later setting laws.lasting time setting.last bound other it.0 it.2.accepted in
       let as_many : acceptors setting time object candidate ≤ acceptors setting time other it.0 =
       count-more setting.n (accepts setting time object candidate) (accepts setting time other it.0)
       (λ replica within both.
@@ -161,8 +161,8 @@ module _ (setting : Setting) (laws : Laws setting) (all : Joint setting) where
       joined_case companion is_companion =
           let upper : HasDecided setting time other companion = further companion is_companion in
           let known : IsAccepted setting setting.last other upper.candidate =
-          some-later setting laws time setting.last bound other upper.candidate
-          (accepted_by_decided setting laws time other upper.candidate upper.decided) in
+          some-later setting laws.lasting time setting.last bound other upper.candidate
+          (accepted_by_decided setting laws.lasting time other upper.candidate upper.decided) in
           let prior_is : setting.member base other ≡ Some (upper.candidate).prior =
           it.joined other upper.candidate apart known
           (is_companion ∙ ap (λ (one : Stamp). Some one) (sym upper.stamp_is)) in
@@ -183,7 +183,7 @@ module _ (setting : Setting) (laws : Laws setting) (all : Joint setting) where
           record {
             candidate = low.candidate;
             stamp_is = low.stamp_is;
-            decided = decided-later setting laws it.time time (omega arith) other low.candidate low.decided;
+            decided = decided-later setting laws.lasting it.time time (omega arith) other low.candidate low.decided;
           }
       by_member (Some companion) is_companion = joined_case companion is_companion
 
@@ -199,12 +199,12 @@ module _ (setting : Setting) (laws : Laws setting) (all : Joint setting) where
         | inl is_act ↦
             let within : it.first.time < time = it.first.within in
             established_joint time bound object base other stamp it.plain_base
-            (established-later setting laws it.first.time time (omega arith) object base (it.settled is_act)) apart
+            (established-later setting laws.lasting it.first.time time (omega arith) object base (it.settled is_act)) apart
             is_member
         | inr no_act ↦
             copy_joint time bound object base candidate other stamp further accepted apart is_member
             (copies_base time bound object base candidate plain no_act
-            (some-later setting laws time setting.last bound object base accepted) prior it.first)
+            (some-later setting laws.lasting time setting.last bound object base accepted) prior it.first)
       ]
 
   -- where a candidate is decided, so is what its group has on each other object
@@ -216,9 +216,9 @@ module _ (setting : Setting) (laws : Laws setting) (all : Joint setting) where
   decided_joint time bound object candidate other stamp (IsDecided.prior same child decided prior accepted) apart
       is_member =
       elim (rests setting laws all time bound object candidate child
-      (accepted_by_decided setting laws time object child decided)
+      (accepted_by_decided setting laws.lasting time object child decided)
       (decided_plain setting laws all time bound object child decided)
-      (some-later setting laws time setting.last bound object candidate accepted) prior) [
+      (some-later setting laws.lasting time setting.last bound object candidate accepted) prior) [
         | inl both ↦
             decided_joint time bound object child other stamp decided apart
             (subst (λ (one : Candidate). setting.member one other ≡ Some stamp) both.0 is_member)
@@ -235,15 +235,15 @@ module _ (setting : Setting) (laws : Laws setting) (all : Joint setting) where
       → IsDecided setting time other companion → IsDecided setting time object candidate
   decided_back time bound object candidate other companion accepted apart is_member decided =
       let known : IsAccepted setting setting.last other companion =
-      some-later setting laws time setting.last bound other companion
-      (accepted_by_decided setting laws time other companion decided) in
+      some-later setting laws.lasting time setting.last bound other companion
+      (accepted_by_decided setting laws.lasting time other companion decided) in
       let it : Companion setting setting.last object candidate other companion =
       companion_is setting.last (omega arith) object candidate other companion accepted apart known is_member in
       let found : HasDecided setting time object candidate.stamp =
       decided_joint time bound other companion object candidate.stamp decided (λ same. apart (sym same)) it.back in
       subst (IsDecided setting time object)
-      (one_candidate setting laws all time setting.last bound (omega arith) object found.candidate candidate
-      (accepted_by_decided setting laws time object found.candidate found.decided) accepted found.stamp_is)
+      (one_candidate setting laws.lasting all.one time setting.last bound (omega arith) object found.candidate candidate
+      (accepted_by_decided setting laws.lasting time object found.candidate found.decided) accepted found.stamp_is)
       found.decided
 
   -- a step that decides a candidate decides what its group has on each other object
@@ -256,8 +256,8 @@ module _ (setting : Setting) (laws : Laws setting) (all : Joint setting) where
       let it : HasDecided setting (suc time) other stamp =
       decided_joint (suc time) (omega arith) object candidate other stamp turn.after apart is_member in
       let accepted : IsAccepted setting setting.last object candidate =
-      some-later setting laws (suc time) setting.last (omega arith) object candidate
-      (accepted_by_decided setting laws (suc time) object candidate turn.after) in (
+      some-later setting laws.lasting (suc time) setting.last (omega arith) object candidate
+      (accepted_by_decided setting laws.lasting (suc time) object candidate turn.after) in (
         it.candidate,
         it.stamp_is,
         record {

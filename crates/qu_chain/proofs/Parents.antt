@@ -13,7 +13,7 @@ use Rattle.qu_chain.specs.Laws.{Sizes, Laws, IsLinked}
 use Rattle.qu_chain.specs.Joint.{Joint}
 use Rattle.qu_chain.proofs.Counting.{Gained, count-gained}
 use Rattle.qu_chain.proofs.Arrival.{Turn, turn_between}
-use Rattle.qu_chain.proofs.Ancestry.{Acceptor, acceptor, accepts, accepts-parts, accepted-later, accepted_by_attested, opening_established}
+use Rattle.qu_chain.proofs.Ancestry.{Acceptor, acceptor, accepts, accepts-parts, accepted_by_attested, opening_established, one_candidate}
 use Rattle.qu_chain.proofs.Established.{chain}
 
 -- a step of a correct replica that brings the object one acceptor more
@@ -104,7 +104,7 @@ module _ (setting : Setting) (laws : Laws setting) where
   pub nobody_attests : (time : ℕ) (object : ObjectId) (candidate : Candidate)
       → acceptors setting time object candidate ≡ 0 → IsAttested setting time object candidate → ⊥
   nobody_attests time object candidate nobody attested =
-      let sizes : Sizes setting = laws.sizes in
+      let sizes : Sizes setting = laws.lasting.sizes in
       omega arith
 
   -- what is accepted first is linked
@@ -167,21 +167,9 @@ module _ (setting : Setting) (laws : Laws setting) where
       (ap (λ (stamp : Stamp). is_below second.stamp stamp) (sym prior)
       ∙ prior_not_above time bound object second accepted plain)
       (ancestor-not_above time bound object first between
-      (accepted_by_attested setting laws time object between attested) plain_between ancestor)
+      (accepted_by_attested setting laws.lasting time object between attested) plain_between ancestor)
 
 module _ (setting : Setting) (laws : Laws setting) (all : Joint setting) where
-  -- accepted candidates of one stamp are one
-  pub one_candidate : (early late : ℕ) → early ≤ setting.last → late ≤ setting.last
-      → (object : ObjectId) (candidate other : Candidate)
-      → IsAccepted setting early object candidate → IsAccepted setting late object other
-      → candidate.stamp ≡ other.stamp → candidate ≡ other
-  one_candidate early late bound other_bound object candidate other accepted other_accepted same =
-      let it : Acceptor setting early object candidate = acceptor setting early object candidate accepted in
-      let its : Acceptor setting late object other = acceptor setting late object other other_accepted in
-      all.one object it.replica its.replica candidate other it.good its.good it.within its.within
-      (accepted-later setting laws early setting.last bound object it.replica candidate it.accepted)
-      (accepted-later setting laws late setting.last other_bound object its.replica other its.accepted) same
-
   -- the base of a parent is the accepted candidate that has the prior's stamp
   base_is : (time : ℕ) → time ≤ setting.last → (object : ObjectId) (base candidate : Candidate)
       → IsAccepted setting setting.last object base → candidate.prior ≡ base.stamp
@@ -189,8 +177,8 @@ module _ (setting : Setting) (laws : Laws setting) (all : Joint setting) where
   base_is time bound object base candidate accepted prior it =
       let within : it.first.time < time = it.first.within in
       let same : it.link.base ≡ base =
-      one_candidate it.first.time setting.last (omega arith) (omega arith) object it.link.base base
-      (accepted_by_attested setting laws it.first.time object it.link.base it.link.attested) accepted
+      one_candidate setting laws.lasting all.one it.first.time setting.last (omega arith) (omega arith) object it.link.base base
+      (accepted_by_attested setting laws.lasting it.first.time object it.link.base it.link.attested) accepted
       (sym it.link.prior ∙ prior) in
       record {
         first = it.first;
@@ -211,7 +199,7 @@ module _ (setting : Setting) (laws : Laws setting) (all : Joint setting) where
             let prior_is : candidate.prior ≡ candidate.stamp =
             ap (λ (it : Candidate). it.prior) same ∙ ap (λ (it : Candidate). it.stamp) (sym same) in
             inl (
-              one_candidate setting.last time (omega arith) bound object base candidate base_accepted accepted
+              one_candidate setting laws.lasting all.one setting.last time (omega arith) bound object base candidate base_accepted accepted
                   (sym prior ∙ prior_is),
               same,
             )

@@ -11,8 +11,8 @@ use Rattle.qu_claims.specs.Setting.{Setting, acceptors, IsEstablished, IsAncesto
 use Rattle.qu_chain.specs.Laws.{Laws, Given}
 use Rattle.qu_claims.specs.Decided.{IsDecided, IsTop}
 use Rattle.qu_chain.specs.Joint.{Joint}
-use Rattle.qu_chain.proofs.Ancestry.{Acceptor, acceptor, accepted_by_decided, established-later, opening_established, decided-later, some-later, ancestor-chain}
-use Rattle.qu_chain.proofs.Parents.{Step, grown, one_candidate, ancestor-not_above}
+use Rattle.qu_chain.proofs.Ancestry.{Acceptor, acceptor, accepted_by_decided, established-later, opening_established, decided-later, some-later, ancestor-chain, one_candidate}
+use Rattle.qu_chain.proofs.Parents.{Step, grown, ancestor-not_above}
 use Rattle.qu_chain.proofs.Deciding.{IsSound, decided_sound, decided_plain, decided_prior, decided_down, OnPath, decided_path}
 
 -- the step establishes a candidate that this one is, or is an ancestor of
@@ -68,7 +68,7 @@ module _ (setting : Setting) (laws : Laws setting) (all : Joint setting) where
       elim (newly time bound object child decided) [
         | inl before ↦
             inl (decided_prior setting laws all time (omega arith) object candidate child
-            (some-later setting laws (suc time) setting.last (omega arith) object candidate accepted) prior before)
+            (some-later setting laws.lasting (suc time) setting.last (omega arith) object candidate accepted) prior before)
         | inr under ↦
             inr (record {
               given = under.given;
@@ -100,7 +100,7 @@ module _ (setting : Setting) (laws : Laws setting) (all : Joint setting) where
             ap (λ (it : Candidate). is_below under.given.stamp it.stamp) same ∙ is_below-self under.given.stamp
         | inr ancestor ↦
             ancestor-not_above setting laws (suc time) (omega arith) object other under.given
-            (accepted_by_decided setting laws (suc time) object under.given
+            (accepted_by_decided setting laws.lasting (suc time) object under.given
             (IsDecided.established under.given under.plain under.established)) under.plain ancestor
       ]
 
@@ -114,7 +114,7 @@ module _ (setting : Setting) (laws : Laws setting) (all : Joint setting) where
       → IsTop setting (suc time) object old
   old_top time bound object old top not_over = record {
     plain_top = top.plain_top;
-    established = established-later setting laws time (suc time) (omega arith) object old top.established;
+    established = established-later setting laws.lasting time (suc time) (omega arith) object old top.established;
     nothing_above = λ other decided.
         elim (newly time bound object other decided) [
           | inl before ↦ top.nothing_above other before
@@ -211,7 +211,7 @@ module _ (setting : Setting) (laws : Laws setting) (all : Joint setting) where
     established = opening_established setting laws 0 object known;
     nothing_above = λ other decided.
         let it : Acceptor setting 0 object other =
-        acceptor setting 0 object other (accepted_by_decided setting laws 0 object other decided) in
+        acceptor setting 0 object other (accepted_by_decided setting laws.lasting 0 object other decided) in
         ap (λ (one : Candidate). is_below opening.stamp one.stamp)
         (laws.start object it.replica other it.good it.within it.accepted) ∙ is_below-self opening.stamp;
   }
@@ -246,9 +246,9 @@ module _ (setting : Setting) (laws : Laws setting) (all : Joint setting) where
   level early late bound other_bound object candidate other decided other_decided not_below not_above =
       elim (cases_Bool (same_stamp candidate.stamp other.stamp)) [
         | inl same ↦
-            one_candidate setting laws all early late bound other_bound object candidate other
-            (accepted_by_decided setting laws early object candidate decided)
-            (accepted_by_decided setting laws late object other other_decided)
+            one_candidate setting laws.lasting all.one early late bound other_bound object candidate other
+            (accepted_by_decided setting laws.lasting early object candidate decided)
+            (accepted_by_decided setting laws.lasting late object other other_decided)
             (equal_by_same_stamp candidate.stamp other.stamp same)
         | inr different ↦
             absurd (false≢true (sym not_above ∙ is_below-other candidate.stamp other.stamp not_below different))
@@ -268,20 +268,20 @@ module _ (setting : Setting) (laws : Laws setting) (all : Joint setting) where
       → is_below candidate.stamp other.stamp ≡ false → IsDecided setting time object other
   under_top time bound object candidate other it decided not_above =
       let late : IsDecided setting setting.last object candidate =
-      decided-later setting laws time setting.last bound object candidate
+      decided-later setting laws.lasting time setting.last bound object candidate
       (top_decided time object candidate it) in
       elim (decided_path setting laws all object candidate other late decided) [
         | OnPath.is_same same ↦ subst (IsDecided setting time object) same (top_decided time object candidate it)
         | OnPath.is_above ancestor ↦
             decided_down setting laws all time bound object other candidate
-            (accepted_by_decided setting laws setting.last object other decided) ancestor
+            (accepted_by_decided setting laws.lasting setting.last object other decided) ancestor
             (top_decided time object candidate it)
         | OnPath.is_under ancestor ↦
             subst (IsDecided setting time object)
             (level time setting.last bound (omega arith) object candidate other
             (top_decided time object candidate it) decided not_above
             (ancestor-not_above setting laws setting.last (omega arith) object candidate other
-            (accepted_by_decided setting laws setting.last object other decided)
+            (accepted_by_decided setting laws.lasting setting.last object other decided)
             (decided_plain setting laws all setting.last (omega arith) object other decided) ancestor))
             (top_decided time object candidate it)
       ]

@@ -31,12 +31,12 @@ module _ (setting : Setting) (laws : Laws setting) (all : Joint setting) where
       → IsDecidedBy setting time object candidate → IsDecided setting setting.last object candidate
   decided_at_last time object candidate turn =
       let within : time < setting.last = turn.within in
-      decided-later setting laws (suc time) setting.last (omega arith) object candidate turn.after
+      decided-later setting laws.lasting (suc time) setting.last (omega arith) object candidate turn.after
 
   pub accepted_at_last : (time : ℕ) (object : ObjectId) (candidate : Candidate)
       → IsDecidedBy setting time object candidate → IsAccepted setting setting.last object candidate
   accepted_at_last time object candidate turn =
-      accepted_by_decided setting laws setting.last object candidate (decided_at_last time object candidate turn)
+      accepted_by_decided setting laws.lasting setting.last object candidate (decided_at_last time object candidate turn)
 
   pub turn_plain : (time : ℕ) (object : ObjectId) (candidate : Candidate)
       → IsDecidedBy setting time object candidate → setting.plain candidate ≡ true
@@ -50,7 +50,7 @@ module _ (setting : Setting) (laws : Laws setting) (all : Joint setting) where
   not_opening time object candidate turn same =
       turn.before (subst (IsDecided setting time object) (sym same)
       (IsDecided.established opening laws.opens
-      (established-later setting laws 0 time (omega arith) object opening
+      (established-later setting laws.lasting 0 time (omega arith) object opening
       (opening_from_first setting laws setting.last object candidate (accepted_at_last time object candidate turn)))))
 
   pub act_base : (time : ℕ) (object : ObjectId) (act : Candidate)
@@ -58,7 +58,7 @@ module _ (setting : Setting) (laws : Laws setting) (all : Joint setting) where
   act_base time object act turn is_act =
       let within : time < setting.last = turn.within in
       elim (parent setting laws (suc time) (omega arith) object act
-      (accepted_by_decided setting laws (suc time) object act turn.after) (turn_plain time object act turn)) [
+      (accepted_by_decided setting laws.lasting (suc time) object act turn.after) (turn_plain time object act turn)) [
         | inl same ↦ absurd (not_opening time object act turn same)
         | inr it ↦
             let before : it.first.time < suc time = it.first.within in
@@ -66,7 +66,7 @@ module _ (setting : Setting) (laws : Laws setting) (all : Joint setting) where
               base = it.link.base;
               prior = it.link.prior;
               plain = it.link.plain_base;
-              established = established-later setting laws it.first.time time (omega arith) object it.link.base
+              established = established-later setting laws.lasting it.first.time time (omega arith) object it.link.base
                   (it.link.settled is_act);
             }
       ]
@@ -116,11 +116,11 @@ module _ (setting : Setting) (laws : Laws setting) (all : Joint setting) where
     at_end lower is_member decided (inr ancestor) =
         let within : time < setting.last = turn.within in
         let late : IsDecided setting setting.last other lower =
-        decided-later setting laws (suc time) setting.last (omega arith) other lower decided in
+        decided-later setting laws.lasting (suc time) setting.last (omega arith) other lower decided in
         let it : Companion setting setting.last object act other lower =
         companion_is setting laws all setting.last (omega arith) object act other lower
         (accepted_at_last time object act turn) apart
-        (accepted_by_decided setting laws setting.last other lower late) is_member in
+        (accepted_by_decided setting laws.lasting setting.last other lower late) is_member in
         let lower_turn : IsDecidedBy setting time other lower = record {
           within = within;
           after = decided;
@@ -156,7 +156,7 @@ module _ (setting : Setting) (laws : Laws setting) (all : Joint setting) where
         (accepted_at_last time object act turn) ancestor
         (subst (IsDecided setting time object) (sym same)
         (IsDecided.established opening laws.opens
-        (established-later setting laws 0 time (omega arith) object opening
+        (established-later setting laws.lasting 0 time (omega arith) object opening
         (opening_from_first setting laws setting.last object act (accepted_at_last time object act turn))))))
 
     -- one parent down on the first row, the group has one parent down on the second
@@ -171,7 +171,7 @@ module _ (setting : Setting) (laws : Laws setting) (all : Joint setting) where
         let plain : setting.plain upper ≡ true =
         decided_plain setting laws all (suc time) (omega arith) object upper decided in
         elim (rests setting laws all (suc time) (omega arith) object base upper
-        (accepted_by_decided setting laws (suc time) object upper decided) plain accepted prior) [
+        (accepted_by_decided setting laws.lasting (suc time) object upper decided) plain accepted prior) [
           | inl both ↦ absurd (no_opening upper ancestor both.1)
           | inr it ↦
               let copy : Copy setting (suc time) object base upper =
@@ -192,9 +192,9 @@ module _ (setting : Setting) (laws : Laws setting) (all : Joint setting) where
         let within : time < setting.last = turn.within in
         let it : Companion setting (suc time) object upper other lower =
         companion_is setting laws all (suc time) (omega arith) object upper other lower
-        (accepted_by_decided setting laws (suc time) object upper decided) apart
-        (some-later setting laws (suc time) setting.last (omega arith) other lower
-        (accepted_by_decided setting laws (suc time) other lower lower_decided)) is_member in
+        (accepted_by_decided setting laws.lasting (suc time) object upper decided) apart
+        (some-later setting laws.lasting (suc time) setting.last (omega arith) other lower
+        (accepted_by_decided setting laws.lasting (suc time) other lower lower_decided)) is_member in
         absurd (false≢true (sym (no_act upper decided ancestor) ∙ sym it.act_too
         ∙ ap (λ (one : Candidate). setting.is_act one) (sym same) ∙ other_is))
 
@@ -214,7 +214,7 @@ module _ (setting : Setting) (laws : Laws setting) (all : Joint setting) where
         let within : time < setting.last = turn.within in
         further between
         (decided_prior setting laws all (suc time) (omega arith) other between lower
-        (accepted_by_attested setting laws setting.last other between attested) prior decided)
+        (accepted_by_attested setting laws.lasting setting.last other between attested) prior decided)
         (is_member ∙ ap (λ (it : Stamp). Some it) prior) (inr ancestor)
 
     -- both rows down to the first act
@@ -229,8 +229,8 @@ module _ (setting : Setting) (laws : Laws setting) (all : Joint setting) where
         let ancestor : IsAncestor setting setting.last object act upper = IsAncestor.direct upper prior in
         step_down lower act lower_decided
         (member_down upper lower act decided ancestor
-        (some-later setting laws (suc time) setting.last (omega arith) other lower
-        (accepted_by_decided setting laws (suc time) other lower lower_decided)) is_member
+        (some-later setting laws.lasting (suc time) setting.last (omega arith) other lower
+        (accepted_by_decided setting laws.lasting (suc time) other lower lower_decided)) is_member
         (accepted_at_last time object act turn) prior)
         (λ next next_decided next_member next_below. at_end next next_member next_decided next_below)
         (next_lower upper lower decided ancestor lower_decided is_member below)
@@ -240,11 +240,11 @@ module _ (setting : Setting) (laws : Laws setting) (all : Joint setting) where
         let ancestor : IsAncestor setting setting.last object act upper =
         IsAncestor.through between upper prior plain attested higher in
         let accepted : IsAccepted setting setting.last object between =
-        accepted_by_attested setting laws setting.last object between attested in
+        accepted_by_attested setting laws.lasting setting.last object between attested in
         step_down lower between lower_decided
         (member_down upper lower between decided ancestor
-        (some-later setting laws (suc time) setting.last (omega arith) other lower
-        (accepted_by_decided setting laws (suc time) other lower lower_decided)) is_member accepted prior)
+        (some-later setting laws.lasting (suc time) setting.last (omega arith) other lower
+        (accepted_by_decided setting laws.lasting (suc time) other lower lower_decided)) is_member accepted prior)
         (λ next next_decided next_member next_below.
         walk between next
         (decided_prior setting laws all (suc time) (omega arith) object between upper accepted prior decided)
@@ -258,7 +258,7 @@ module _ (setting : Setting) (laws : Laws setting) (all : Joint setting) where
     reach_last where_at candidate given (inl same) = inl same
     reach_last where_at candidate given (inr ancestor) =
         let within : time < setting.last = turn.within in
-        inr (ancestor-later setting laws (suc time) setting.last (omega arith) where_at candidate given ancestor)
+        inr (ancestor-later setting laws.lasting (suc time) setting.last (omega arith) where_at candidate given ancestor)
 
     from_top : (upper lower : Candidate) → IsDecided setting (suc time) object upper
         → IsDecided setting (suc time) other lower
@@ -325,7 +325,7 @@ module _ (setting : Setting) (laws : Laws setting) (all : Joint setting) where
   not_over_base time object act candidate turn is_act it decided
       (IsAncestor.through between same prior plain attested ancestor) =
       let accepted : IsAccepted setting setting.last object between =
-      accepted_by_attested setting laws setting.last object between attested in
+      accepted_by_attested setting laws.lasting setting.last object between attested in
       ap (λ (stamp : Stamp). is_below stamp candidate.stamp) (sym it.prior ∙ prior)
       ∙ ancestor-not_above setting laws setting.last (omega arith) object candidate between accepted plain ancestor
 
@@ -343,7 +343,7 @@ module _ (setting : Setting) (laws : Laws setting) (all : Joint setting) where
           established = it.established;
           nothing_above = λ candidate decided.
               let late : IsDecided setting setting.last object candidate =
-              decided-later setting laws time setting.last (omega arith) object candidate decided in
+              decided-later setting laws.lasting time setting.last (omega arith) object candidate decided in
               elim (decided_path setting laws all object act candidate (decided_at_last time object act turn) late) [
                 | OnPath.is_same same ↦
                     absurd (turn.before (subst (IsDecided setting time object) (sym same) decided))

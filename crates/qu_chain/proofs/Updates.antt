@@ -42,9 +42,9 @@ module _ (setting : Setting) (laws : Laws setting) (all : Joint setting)
       → candidate ≡ other
   once_here update object candidate other is_of other_of decided other_decided =
       let accepted : IsAccepted setting setting.last object candidate =
-      accepted_by_decided setting laws setting.last object candidate decided in
+      accepted_by_decided setting laws.lasting setting.last object candidate decided in
       let other_accepted : IsAccepted setting setting.last object other =
-      accepted_by_decided setting laws setting.last object other other_decided in
+      accepted_by_decided setting laws.lasting setting.last object other other_decided in
       elim (decided_path setting laws all object candidate other decided other_decided) [
         | OnPath.is_same same ↦ same
         | OnPath.is_under ancestor ↦
@@ -60,9 +60,9 @@ module _ (setting : Setting) (laws : Laws setting) (all : Joint setting)
       → IsOneAct setting object other candidate companion
   decided_once update object other candidate companion is_of other_of decided other_decided =
       let accepted : IsAccepted setting setting.last object candidate =
-      accepted_by_decided setting laws setting.last object candidate decided in
+      accepted_by_decided setting laws.lasting setting.last object candidate decided in
       elim (spread update object other candidate companion is_of accepted other_of
-      (accepted_by_decided setting laws setting.last other companion other_decided)) [
+      (accepted_by_decided setting laws.lasting setting.last other companion other_decided)) [
         | inl same ↦
             inl (
               same,
@@ -80,7 +80,7 @@ module _ (setting : Setting) (laws : Laws setting) (all : Joint setting)
             let same : found.candidate ≡ companion =
             once_here update other found.candidate companion
             (shared update object other candidate found.candidate is_of accepted it.0 is_member
-            (accepted_by_decided setting laws setting.last other found.candidate found.decided))
+            (accepted_by_decided setting laws.lasting setting.last other found.candidate found.decided))
             other_of found.decided other_decided in
             inr (record {
               apart = it.0;
@@ -97,7 +97,7 @@ module _ (setting : Setting) (laws : Laws setting) (all : Joint setting)
       let within : time < setting.last = turn.within in
       elim (decided_once update object other candidate companion is_of other_of
       (decided_at_last setting laws all time object candidate turn)
-      (decided-later setting laws time setting.last (omega arith) other companion before)) [
+      (decided-later setting laws.lasting time setting.last (omega arith) other companion before)) [
         | inl both ↦
             turn.before (subst (λ (it : ObjectId). IsDecided setting time it candidate) (sym both.0)
             (subst (IsDecided setting time other) (sym both.1) before))

@@ -46,12 +46,12 @@ module _ (setting : Setting) (laws : Laws setting) (all : Joint setting)
 
     late : (candidate : Candidate) → IsDecided setting (suc time) object candidate
         → IsDecided setting setting.last object candidate
-    late candidate decided = decided-later setting laws (suc time) setting.last (omega arith) object candidate decided
+    late candidate decided = decided-later setting laws.lasting (suc time) setting.last (omega arith) object candidate decided
 
     old_accepted : IsAccepted setting setting.last object old
     old_accepted =
-        some-later setting laws time setting.last (omega arith) object old
-        (accepted_by_decided setting laws time object old old_decided)
+        some-later setting laws.lasting time setting.last (omega arith) object old
+        (accepted_by_decided setting laws.lasting time object old old_decided)
 
     -- an act that the step decides rests on the old top
     act_prior : (act : Candidate) → IsDecidedBy setting time object act → setting.is_act act ≡ true
@@ -89,7 +89,7 @@ module _ (setting : Setting) (laws : Laws setting) (all : Joint setting)
           different (level setting laws all time time (omega arith) (omega arith) object old here old_decided already
           (top.nothing_above here already)
           (ancestor-not_above setting laws setting.last (omega arith) object old here
-          (accepted_by_decided setting laws setting.last object here (late here decided))
+          (accepted_by_decided setting laws.lasting setting.last object here (late here decided))
           (decided_plain setting laws all setting.last (omega arith) object here (late here decided)) ancestor));
     }
 
@@ -97,13 +97,13 @@ module _ (setting : Setting) (laws : Laws setting) (all : Joint setting)
         → here.prior ≡ base.stamp → IsDecided setting (suc time) object base → Passes object base here
     copy_passes here base decided no_act prior base_is_decided value has =
         copied object here base value
-        (accepted_by_decided setting laws setting.last object here (late here decided))
+        (accepted_by_decided setting laws.lasting setting.last object here (late here decided))
         (decided_plain setting laws all setting.last (omega arith) object here (late here decided)) no_act prior
         (decided_plain setting laws all setting.last (omega arith) object base (late base base_is_decided))
-        (accepted_by_decided setting laws setting.last object base (late base base_is_decided)) has
+        (accepted_by_decided setting laws.lasting setting.last object base (late base base_is_decided)) has
 
     old_after : IsDecided setting (suc time) object old
-    old_after = decided-later setting laws time (suc time) (omega arith) object old old_decided
+    old_after = decided-later setting laws.lasting time (suc time) (omega arith) object old old_decided
 
     -- the end of the way down: a copy of the old top
     upon_old : (here : Candidate) → IsDecidedBy setting time object here → setting.is_act here ≡ false
@@ -151,7 +151,7 @@ module _ (setting : Setting) (laws : Laws setting) (all : Joint setting)
           | inl is_act ↦ Moved.loud here is_act turn (act_prior here turn is_act) passes
           | inr no_act ↦
               further_down here between turn no_act prior
-              (accepted_by_attested setting laws setting.last object between attested) passes
+              (accepted_by_attested setting laws.lasting setting.last object between attested) passes
               (λ lower_decided lower_different lower_passes.
               climb between lower_decided lower_different lower_passes ancestor)
         ]

@@ -6,6 +6,7 @@ use Rattle.qu_stamp.specs.declared.stamp.Stamp.{Stamp}
 use Rattle.qu_stamp.specs.declared.candidate.Candidate.{Candidate}
 use Rattle.qu_claims.specs.Setting.{Setting, Apart, IsAttested, IsNew}
 use Rattle.qu_claims.specs.Groups.{HasDecided}
+use Rattle.qu_chain.specs.Laws.{StampsAreOne}
 
 -- a replica that accepted the candidate accepted this member of its group too, on the other object
 pub record HasCompanion (setting : Setting) (time : ℕ) (object : ObjectId) (replica : ℕ) (candidate : Candidate)
@@ -42,14 +43,7 @@ HasMember setting object candidate other =
 
 -- what is asked of a run for all objects together
 pub record Joint (setting : Setting) : Type 0 where
-  -- one stamp on an object is that of one candidate
-  pub one : (object : ObjectId) (replica other_replica : ℕ) (candidate other : Candidate)
-      → setting.good replica ≡ true → setting.good other_replica ≡ true
-      → replica < setting.n → other_replica < setting.n
-      → setting.accepted setting.last object replica candidate ≡ true
-      → setting.accepted setting.last object other_replica other ≡ true
-      → candidate.stamp ≡ other.stamp
-      → candidate ≡ other
+  pub one : StampsAreOne setting
   -- a correct replica accepts all of a group or nothing of it
   pub joint : (time : ℕ) (object : ObjectId) (replica : ℕ) (candidate : Candidate) (other : ObjectId) (stamp : Stamp)
       → setting.good replica ≡ true → replica < setting.n

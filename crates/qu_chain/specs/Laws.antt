@@ -20,6 +20,25 @@ pub record Sizes (setting : Setting) : Type 0 where
   -- are no repairing set
   pub within : setting.quorum ≤ setting.n
 
+-- what is asked before all else
+pub record Lasting (setting : Setting) : Type 0 where
+  pub sizes : Sizes setting
+  -- what is accepted stays so
+  pub grows : (time : ℕ) (object : ObjectId) (replica : ℕ) (candidate : Candidate)
+      → setting.accepted time object replica candidate ≡ true
+      → setting.accepted (suc time) object replica candidate ≡ true
+
+-- one stamp on an object is that of one candidate
+abbrev pub StampsAreOne : Setting → Type 0
+StampsAreOne setting =
+    (object : ObjectId) (replica other_replica : ℕ) (candidate other : Candidate)
+    → setting.good replica ≡ true → setting.good other_replica ≡ true
+    → replica < setting.n → other_replica < setting.n
+    → setting.accepted setting.last object replica candidate ≡ true
+    → setting.accepted setting.last object other_replica other ≡ true
+    → candidate.stamp ≡ other.stamp
+    → candidate ≡ other
+
 -- the candidate rests on an attested one that passes over nothing established which this replica had
 -- accepted (Query/Update's rules for what a replica accepts)
 pub record IsLinked (setting : Setting) (time : ℕ) (object : ObjectId) (replica : ℕ) (candidate : Candidate)
@@ -44,7 +63,7 @@ pub record Given (setting : Setting) (time : ℕ) (object : ObjectId) : Type 0 w
 
 -- what is asked of a run
 pub record Laws (setting : Setting) : Type 0 where
-  pub sizes : Sizes setting
+  pub lasting : Lasting setting
   -- the opening candidate has no barrier
   pub opens : setting.plain opening ≡ true
   -- at first each correct replica has accepted the opening candidate of each object
@@ -61,10 +80,6 @@ pub record Laws (setting : Setting) : Type 0 where
       → setting.good replica ≡ true → replica < setting.n
       → setting.accepted time object replica candidate ≡ true
       → setting.known object ≡ true
-  -- what is accepted stays so
-  pub grows : (time : ℕ) (object : ObjectId) (replica : ℕ) (candidate : Candidate)
-      → setting.accepted time object replica candidate ≡ true
-      → setting.accepted (suc time) object replica candidate ≡ true
   -- what a correct replica accepts is above all that it accepted before
   pub rising : (time : ℕ) (object : ObjectId) (replica : ℕ) (candidate earlier : Candidate)
       → IsNew setting time object replica candidate

@@ -1,5 +1,5 @@
 -- Why a replica accepts a candidate, and what an event of a world adds to a replica.
-use Rattle.std.specs.Prelude.{◌≡◌, ◌+◌, ◌≤◌, ℕ, Bool, true, false, List, [], ◌∷◌, ◌++◌, length, map, Option, None, Some, IsTrue}
+use Rattle.std.specs.Prelude.{◌≡◌, ◌+◌, ◌≤◌, ℕ, Bool, true, false, List, [], ◌∷◌, ◌++◌, length, map, Option, None, Some, Result, Ok, Err}
 use Rattle.std.specs.List.{flat_map}
 use Rattle.qu_base.specs.declared.party.ClientId.{ClientId}
 use Rattle.qu_base.specs.declared.party.ObjectId.{ObjectId}
@@ -8,23 +8,30 @@ use Rattle.qu_stamp.specs.declared.stamp.Stamp.{Stamp}
 use Rattle.qu_stamp.specs.declared.candidate.Candidate.{Candidate}
 use Rattle.qu_stamp.specs.Stamp.{is_below}
 use Rattle.qu_stamp.specs.Candidate.{member as member_on}
-use Rattle.qu_stamp.specs.Group.{is_group}
 use Rattle.qu_history.specs.declared.sets.SetOf.{SetOf}
 use Rattle.qu_history.specs.Culling.{culled}
 use Rattle.qu_history.specs.Sets.{entries_of, latest_of, order_of, method_at}
 use Rattle.qu_objects.specs.declared.act.Method.{Method}
 use Rattle.qu_objects.specs.declared.state.ObjState.{ObjState}
 use Rattle.qu_objects.specs.Performing.{performed_values}
-use Rattle.qu_kept.specs.Performing.{row_by, links_to_others, state_after}
+use Rattle.qu_kept.specs.Performing.{row_by, links_to_others, state_after, copied_state}
 use Rattle.qu_kept.specs.Rows.{row_of}
 use Rattle.qu_kept.specs.Standing.{IsLower}
+use Rattle.qu_class.specs.declared.plan.CopyPlan.{CopyPlan}
+use Rattle.qu_class.specs.declared.plan.PlanFail.{PlanFail}
+use Rattle.qu_class.specs.declared.class.Class.TheVariants.{Copy}
+use Rattle.qu_class.specs.Chosen.{chosen_on}
+use Rattle.qu_class.specs.Class.{class_in}
+use Rattle.qu_class.specs.Copying.{plan_of}
+use Rattle.qu_class.specs.Evidence.{evidence_of}
+use Rattle.qu_class.specs.Linking.{Linking}
 use Rattle.qu_class.specs.Repairable.{object_base}
 use Rattle.qu_frames.specs.declared.frame.Body.{Body}
 use Rattle.qu_frames.specs.declared.frame.Body.TheVariants as body
 use Rattle.qu_frames.specs.declared.frame.Frame.{Frame}
 use Rattle.qu_frames.specs.declared.frame.Frame.TheVariants as frame
 use Rattle.qu_versions.specs.declared.stored.Stored.{Stored}
-use Rattle.qu_rows.specs.Rows.{Asked, asked_of, fresh_stamp, fresh_group, objects_of}
+use Rattle.qu_rows.specs.Rows.{Asked, asked_of, fresh_stamp, fresh_group, objects_of, linking_of, missing_of}
 use Rattle.qu_rows.specs.State.{ReplicaState, own_candidates, own_latest}
 use Rattle.qu_fitting.specs.Holding.{stored_if}
 use Rattle.qu_versions.specs.Versions.{version_at}
@@ -43,33 +50,41 @@ made_stamp asked object barrier =
       set = asked.set;
     }
 
--- the replica makes the candidate, with those on the other objects: above all that is shown, upon the object candidate,
--- with the digests of the act, if one is asked for, and of the sets
-pub record IsMade (bounds : ℕ) (asked : Asked) (objects : List ObjectId) (object : ObjectId) (candidate : Candidate)
-    : Type 0 where
+-- the replica makes the candidate upon a base, with those on the other objects: above all that is shown, with the
+-- digests of the act, if one is asked for, and of the sets
+pub record IsMade (asked : Asked) (base : Candidate) (objects : List ObjectId) (object : ObjectId)
+    (candidate : Candidate) : Type 0 where
   pub stamp : candidate.stamp ≡ made_stamp asked object candidate.stamp.barrier
-  pub prior : candidate.prior ≡ (object_base bounds (entries_of object asked.sets)).stamp
+  pub prior : candidate.prior ≡ base.stamp
   pub group : candidate.group ≡ fresh_group asked objects
 
 -- the object candidate: the greatest without barrier that the sets show so often that it may be repaired
 abbrev pub shown_base : ℕ → Asked → ObjectId → Candidate
 shown_base bounds asked object = object_base bounds (entries_of object asked.sets)
 
--- the objects on which it was accepted together with others; none where it stands alone
-abbrev pub copied_on : ℕ → Asked → ObjectId → List ObjectId
-copied_on bounds asked object = objects_of (shown_base bounds asked object).group
+-- the objects that are copied together, by the plan of a target
+abbrev pub planned_on : Result CopyPlan PlanFail → List ObjectId
+planned_on (Ok plan) = objects_of plan.joint
+planned_on (Err why) = []
 
--- the objects on which a request makes candidates together with one on this object: those of an act, or those that are
--- copied together. A barrier is set alone.
-abbrev pub made_on : ℕ → Asked → Body → ObjectId → Bool → List ObjectId
-made_on bounds asked (body.Act parts) object barrier = objects_of parts
-made_on bounds asked (body.Ask parts) object barrier = []
-made_on bounds asked (body.Mend target) object true = object ∷ []
-made_on bounds asked (body.Mend target) object false = copied_on bounds asked object
+-- a request makes candidates together on the objects of an act, upon the object candidates; a barrier is set alone,
+-- upon the object candidate; and what is chosen is copied on all objects of the plan, by what the versions tell
+abbrev pub made_on : ℕ → Linking → Asked → Body → ObjectId → Bool → List ObjectId
+made_on bounds link asked (body.Act parts) object barrier = objects_of parts
+made_on bounds link asked (body.Ask parts) object barrier = []
+made_on bounds link asked (body.Mend target) object true = object ∷ []
+made_on bounds link asked (body.Mend target) object false = planned_on (plan_of bounds asked.sets link target)
 
-abbrev pub IsMadeFrom : ℕ → Asked → Body → ObjectId → Candidate → Type 0
-IsMadeFrom bounds asked asks object candidate =
-    IsMade bounds asked (made_on bounds asked asks object candidate.stamp.barrier) object candidate
+abbrev pub made_upon : ℕ → Linking → Asked → Body → ObjectId → Bool → Candidate
+made_upon bounds link asked (body.Act parts) object barrier = shown_base bounds asked object
+made_upon bounds link asked (body.Ask parts) object barrier = shown_base bounds asked object
+made_upon bounds link asked (body.Mend target) object true = shown_base bounds asked object
+made_upon bounds link asked (body.Mend target) object false = chosen_on bounds asked.sets link object
+
+abbrev pub IsMadeFrom : ℕ → Linking → Asked → Body → ObjectId → Candidate → Type 0
+IsMadeFrom bounds link asked asks object candidate =
+    IsMade asked (made_upon bounds link asked asks object candidate.stamp.barrier)
+    (made_on bounds link asked asks object candidate.stamp.barrier) object candidate
 
 -- it is shown the candidate, by so many that it may be repaired, and nothing later
 pub record IsFound (bounds : ℕ) (asked : Asked) (object : ObjectId) (candidate : Candidate) : Type 0 where
@@ -122,34 +137,36 @@ pub record Performs (old new : ReplicaState) (asked : Asked) (parts : List (Obje
 
 -- ---- a repair (Query/Update: inline repair, barriers and copies)
 
--- what is copied was accepted together: the object candidates of the group's objects have the stamps that it lists
-pub record AreCopied (bounds : ℕ) (asked : Asked) (object : ObjectId) : Type 0 where
-  pub whole : IsTrue (is_group (shown_base bounds asked object).group)
-  pub together : (other : ObjectId) → Names (shown_base bounds asked object).group other
-      → member_on (shown_base bounds asked object) other ≡ Some (shown_base bounds asked other).stamp
+-- the plan of a target of class COPY, by what the replica's versions tell, of which it lacks none that the plan reads
+pub record IsPlanned (state : ReplicaState) (asked : Asked) (target : ObjectId) (plan : CopyPlan) : Type 0 where
+  pub copy : class_in state.keys.bounds asked.sets target ≡ Copy
+  pub known : missing_of state (evidence_of state.keys.bounds asked.sets target) ≡ []
+  pub is : plan_of state.keys.bounds asked.sets (linking_of state) target ≡ Ok plan
 
--- why a replica adds a candidate to an object that is to be mended, and which version it stores with it
-pub data IsRemedy (state : ReplicaState) (asked : Asked) (target : ObjectId) (candidate : Candidate)
+-- why a replica adds a candidate to an object that is mended with a target, and which version it stores with it
+pub data IsRemedy (state : ReplicaState) (asked : Asked) (target object : ObjectId) (candidate : Candidate)
     : Option ObjState → Type 0 where
   -- it is shown a barrier
-  inline_barrier : candidate.stamp.barrier ≡ true → IsFound state.keys.bounds asked target candidate
-      → IsRemedy state asked target candidate None
+  inline_barrier : candidate.stamp.barrier ≡ true → IsFound state.keys.bounds asked object candidate
+      → IsRemedy state asked target object candidate None
   -- it is shown a candidate without barrier, whose version it has already
   inline_method : (version : ObjState) → candidate.stamp.barrier ≡ false
-      → IsFound state.keys.bounds asked target candidate
-      → version_at target candidate.stamp state.versions ≡ Some version
-      → IsRemedy state asked target candidate None
+      → IsFound state.keys.bounds asked object candidate
+      → version_at object candidate.stamp state.versions ≡ Some version
+      → IsRemedy state asked target object candidate None
   -- it sets a barrier
-  barrier : candidate.stamp.barrier ≡ true → IsMade state.keys.bounds asked (target ∷ []) target candidate
-      → IsRemedy state asked target candidate None
-  -- it copies the object candidate, with those on the objects of its group, where a quorum holds the latest, a barrier
-  copy : (latest : Candidate) (version : ObjState) → candidate.stamp.barrier ≡ false
-      → IsMade state.keys.bounds asked (copied_on state.keys.bounds asked target) target candidate
-      → AreCopied state.keys.bounds asked target
-      → latest.stamp.barrier ≡ true → latest.stamp ≡ latest_of (entries_of target asked.sets)
-      → quorum state.keys.bounds ≤ order_of latest (entries_of target asked.sets)
-      → version_at target candidate.prior state.versions ≡ Some version
-      → IsRemedy state asked target candidate (Some version)
+  barrier : candidate.stamp.barrier ≡ true
+      → IsMade asked (shown_base state.keys.bounds asked object) (object ∷ []) object candidate
+      → IsRemedy state asked target object candidate None
+  -- it copies what is chosen there, on the objects of the target's plan, where a quorum holds the latest, a barrier
+  copy : (latest : Candidate) (plan : CopyPlan) (before : ObjState) → candidate.stamp.barrier ≡ false
+      → IsPlanned state asked target plan → Names plan.joint object
+      → IsMade asked (chosen_on state.keys.bounds asked.sets (linking_of state) object) (objects_of plan.joint) object
+      candidate
+      → latest.stamp.barrier ≡ true → latest.stamp ≡ latest_of (entries_of object asked.sets)
+      → quorum state.keys.bounds ≤ order_of latest (entries_of object asked.sets)
+      → version_at object candidate.prior state.versions ≡ Some before
+      → IsRemedy state asked target object candidate (Some (copied_state object candidate before))
 
 -- the objects that are mended: those of a group together, or the target where there is none
 abbrev pub MendsOn : ObjectId → List (ObjectId × ℕ) → ObjectId → Type 0
@@ -181,7 +198,7 @@ pub record Mends (old new : ReplicaState) (asked : Asked) (target : ObjectId) (g
       → member_on (candidates object) other ≡ Some (candidates other).stamp
   pub versions : ObjectId → Option ObjState
   pub remedy : (object : ObjectId) → MendsOn target group object
-      → IsRemedy old asked object (candidates object) (versions object)
+      → IsRemedy old asked target object (candidates object) (versions object)
   pub stored : new.versions ≡ old.versions ++ stored_mended candidates versions (mended_objects target group)
 
 -- ---- what a request makes a replica accept

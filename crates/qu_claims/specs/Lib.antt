@@ -10,6 +10,7 @@ pub mod Premises
 pub mod Count
 pub mod Setting
 pub mod Decided
+pub mod Links
 pub mod Order
 pub mod Parts
 pub mod Grounds

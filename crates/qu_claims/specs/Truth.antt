@@ -1,4 +1,5 @@
--- What correct replicas store is true: each version is that of its stamp, with rows that updates wrote.
+-- What correct replicas store is true: each version is that of its stamp, with rows that updates wrote, and with links
+-- that name what it was made together with.
 -- Definitions whose comment names no source are this project's own; Query/Update is the paper of SOSP 2005.
 use Rattle.std.specs.Prelude.{◌≡◌, ◌⊎◌, ℕ, ◌≤◌, true, length, slice_get, Some}
 use Rattle.qu_base.specs.declared.party.ClientId.{ClientId}
@@ -11,7 +12,9 @@ use Rattle.qu_objects.specs.Digesting.{act_digest}
 use Rattle.qu_kept.specs.Rows.{row_of}
 use Rattle.qu_rows.specs.State.{ReplicaState}
 use Rattle.qu_versions.specs.Versions.{version_at}
+use Rattle.qu_class.specs.Linking.{link_in}
 use Rattle.qu_trace.specs.declared.trace.Trace.{Trace}
+use Rattle.qu_claims.specs.Links.{LinksAre}
 use Rattle.qu_claims.specs.RunSetting.{setting}
 use Rattle.qu_claims.specs.Setting.{IsAccepted, IsAncestor}
 use Rattle.qu_claims.specs.Times.{world_after}
@@ -49,12 +52,13 @@ pub record IsVersionOf (trace : Trace) (time : ℕ) (object : ObjectId) (stamp :
   pub accepted : IsAccepted (setting trace) time object candidate
   pub has : HasVersion trace object candidate version
 
--- and each row that it keeps is one that an update wrote on the way to this candidate
+-- and each row that it keeps is one that an update wrote on the way to this candidate; its links are true and kept
 pub record IsTrueVersion (trace : Trace) (time : ℕ) (object : ObjectId) (stamp : Stamp) (version : ObjState)
     : Type 0 where
   pub of_stamp : IsVersionOf trace time object stamp version
   pub rows : (client : ClientId) (row : KeptRow) → row_of client version.kept ≡ Some row
       → IsWritten trace object of_stamp.candidate client row
+  pub links : LinksAre (setting trace) time object of_stamp.candidate (link_in version.links)
 
 -- whatever a replica finds under a stamp, at any time of the run
 abbrev pub VersionsAreTrue : Trace → Type 0
@@ -62,3 +66,12 @@ VersionsAreTrue trace = (time : ℕ) → time ≤ length trace.entries → (plac
     → slice_get (world_after trace time).replicas place ≡ Some state
     → (object : ObjectId) (stamp : Stamp) (version : ObjState)
     → version_at object stamp state.versions ≡ Some version → IsTrueVersion trace time object stamp version
+
+-- the links of whatever a replica finds under the stamp of an accepted candidate
+abbrev pub LinksAreTrue : Trace → Type 0
+LinksAreTrue trace = (time : ℕ) → time ≤ length trace.entries → (place : ℕ) (state : ReplicaState)
+    → slice_get (world_after trace time).replicas place ≡ Some state
+    → (object : ObjectId) (stamp : Stamp) (version : ObjState)
+    → version_at object stamp state.versions ≡ Some version → (candidate : Candidate)
+    → IsAccepted (setting trace) (setting trace).last object candidate → candidate.stamp ≡ stamp
+    → LinksAre (setting trace) time object candidate (link_in version.links)

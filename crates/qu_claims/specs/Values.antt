@@ -1,4 +1,5 @@
--- The version of a candidate: the state that its update makes of the versions of its bases, or that of what it copies.
+-- The version of a candidate: the state that its update makes of the versions of its bases, or that of what it copies
+-- with links of its own.
 use Rattle.std.specs.Prelude.{◌≡◌, true, false, slice_get, Some}
 use Rattle.qu_claims.specs.Groups.{IsOneAct}
 use Rattle.qu_base.specs.declared.party.ObjectId.{ObjectId}
@@ -10,7 +11,7 @@ use Rattle.qu_objects.specs.declared.kind.Value.{Value}
 use Rattle.qu_objects.specs.declared.state.ObjState.{ObjState}
 use Rattle.qu_objects.specs.Kind.{opening_version}
 use Rattle.qu_objects.specs.Performing.{performed_values}
-use Rattle.qu_kept.specs.Performing.{row_by, links_to_others, state_after}
+use Rattle.qu_kept.specs.Performing.{row_by, links_to_others, state_after, copied_state}
 use Rattle.qu_kept.specs.Rows.{row_of}
 use Rattle.qu_kept.specs.Standing.{IsLower}
 use Rattle.qu_trace.specs.declared.trace.Trace.{Trace}
@@ -27,17 +28,18 @@ pub record RestsOn (trace : Trace) (object : ObjectId) (candidate : Candidate) (
   pub prior : companion.prior ≡ base.stamp
   pub base_accepted : IsEverAccepted trace other base
 
--- the version of a candidate of an object: the opening one's is fresh; that of a copy is its prior's; another's is what
--- its update makes of the versions of its bases, one on each of its objects, none of which keeps a number of the client
--- that is at least the update's. A barrier has none.
+-- the version of a candidate of an object: the opening one's is fresh; that of a copy is its prior's, with links to
+-- the other objects of the copy's group; another's is what its update makes of the versions of its bases, one on each
+-- of its objects, none of which keeps a number of the client that is at least the update's. A barrier has none.
 pub data HasVersion (trace : Trace) : ObjectId → Candidate → ObjState → Type 0 where
   of_opening : (object : ObjectId) (kind : KindName) → slice_get trace.setup.kinds object.0 ≡ Some kind
       → HasVersion trace object opening (opening_version kind)
-  of_copy : (object : ObjectId) (candidate base : Candidate) (state : ObjState)
+  of_copy : (object : ObjectId) (candidate base : Candidate) (before state : ObjState)
       → is_below candidate.prior candidate.stamp ≡ true
       → (setting trace).plain candidate ≡ true → (setting trace).is_act candidate ≡ false
       → candidate.prior ≡ base.stamp → IsEverAccepted trace object base
-      → HasVersion trace object base state
+      → HasVersion trace object base before
+      → state ≡ copied_state object candidate before
       → HasVersion trace object candidate state
   of_update : (object : ObjectId) (candidate : Candidate) (update : Update) (bases : ObjectId → Candidate)
       (befores : ObjectId → ObjState) (afters : ObjectId → Value) (state : ObjState)

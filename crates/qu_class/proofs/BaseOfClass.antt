@@ -1,4 +1,4 @@
--- The candidate of a class, if it is no barrier, is the object candidate, and upon this one a barrier rests.
+-- A barrier rests upon the object candidate.
 use Rattle.std.proofs.Common.{◌≡◌, ℕ, ◌&&◌, Bool, true, false, cond, List, Option, None, Some, refl, sym, ap, subst}
 use Rattle.qu_base.specs.declared.party.ObjectId.{ObjectId}
 use Rattle.qu_stamp.specs.declared.stamp.Stamp.{Stamp}
@@ -65,14 +65,5 @@ module _ (bounds : ℕ) (sets : List SetOf) (object : ObjectId) where
   unfolding class_in
   of_class_in = of_members (class_of bounds (entries_of object sets)) (of_class bounds (entries_of object sets))
 
-  pub method_has_base : (candidate : Candidate) → Method candidate ≡ class_in bounds sets object → candidate ≡ chosen
-  method_has_base candidate is = subst (IsOf chosen) (sym is) of_class_in
-
-  pub inline_has_base : (candidate : Candidate) → InlineMethod candidate ≡ class_in bounds sets object
-      → candidate ≡ chosen
-  inline_has_base candidate is = subst (IsOf chosen) (sym is) of_class_in
-
   pub barrier_has_base : (prior : Stamp) → Barrier prior ≡ class_in bounds sets object → prior ≡ chosen.stamp
   barrier_has_base prior is = subst (IsOf chosen) (sym is) of_class_in
-
-pub ruleset class_has_base = (method_has_base, inline_has_base)

@@ -93,7 +93,7 @@ some_is None never = absurd (never refl)
 some_is (Some candidate) never = refl
 
 module _ (bounds : ℕ) (entries : List ObjectHistory) (formed : AreWellFormed bounds entries) where
-  some_repair : 1 ≤ repair bounds
+  pub some_repair : 1 ≤ repair bounds
   some_repair = omega (arith, formed.thresholds.repair_outnumbers)
 
   pub repair_within_quorum : repair bounds ≤ quorum bounds

@@ -1,5 +1,5 @@
 -- The class of an object by the histories that some replicas showed of it (Query/Update: classification).
-use Rattle.std.specs.Prelude.{ℕ, Bool, not, ◌==◌, ◌&&◌, nat_le, if◌then◌else◌, List, find, Option, None, Some}
+use Rattle.std.specs.Prelude.{ℕ, Bool, true, false, not, ◌==◌, ◌&&◌, nat_le, if◌then◌else◌, List, find, Option, None, Some}
 use Rattle.std.specs.List.{list_all, list_any}
 use Rattle.std.specs.Option.{option_map}
 use Rattle.qu_base.specs.Bounds.{quorum}
@@ -19,6 +19,10 @@ use Rattle.qu_class.specs.Repairable.{barrier_candidate, object_base}
 abbrev pub method_of : Class → Option Candidate
 method_of (Method candidate) = Some candidate
 method_of _ = None
+
+abbrev pub is_copy : Class → Bool
+is_copy Copy = true
+is_copy _ = false
 
 -- no stamp is above that of the candidate
 abbrev pub is_latest : List ObjectHistory → Candidate → Bool

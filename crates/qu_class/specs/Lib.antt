@@ -1,4 +1,7 @@
 pub mod Repairable
 pub mod Class
 pub mod Rows
-pub mod Plan
+pub mod Linking
+pub mod Chosen
+pub mod Evidence
+pub mod Copying

@@ -87,9 +87,15 @@ fn agrees(sets: &Sets, bounds: &Bounds, candidate: &Candidate, member: (ObjectId
 pub(super) fn is_companion(base: &Candidate, candidate: &Candidate, member: (ObjectId, u64)) -> bool
     ensures { result ≡ is_of_group base.now (listed_stamp candidate.now member) candidate.now.group }
 {
-    let stamp = Stamp {
+    base.stamp == member_stamp(candidate, member) && base.group == candidate.group
+}
+
+/// The stamp that the candidate's group lists for a member.
+pub(super) fn member_stamp(candidate: &Candidate, member: (ObjectId, u64)) -> Stamp
+    ensures { result ≡ listed_stamp candidate.now member }
+{
+    Stamp {
         time: member.1,
         ..candidate.stamp
-    };
-    base.stamp == stamp && base.group == candidate.group
+    }
 }

@@ -27,7 +27,7 @@ use Rattle.qu_rows.specs.Rows.{Asked, refuse, row_unknown, row_thin}
 use Rattle.qu_mends.specs.Table.{first_given}
 use Rattle.qu_rows.proofs.Own.{own_history}
 use Rattle.qu_fitting.specs.Fits.{StateFits}
-use Rattle.qu_rows.proofs.RisingObjects.{IsNumbered}
+use Rattle.qu_kept.proofs.RisingObjects.{IsNumbered}
 use Rattle.qu_fitting.proofs.FitStamps.{opening_fits, candidates_fit}
 use Rattle.qu_fitting.proofs.FitVerdicts.{unknown_fits, thin_fits}
 use Rattle.qu_fitting.proofs.FitAccepted.{AcceptAllFit}
@@ -95,7 +95,8 @@ unfolding set_form
 sets_from least [] fits = tt
 sets_from least (set ∷ later) fits = (((fits.0).0).0.1, sets_from ((set.object).0 + 1) later fits.1)
 
-sets_numbered : (sets : List SetOf) → sets_form.Fits sets → AllByRecursion (λ (set : SetOf). IsNumbered set.object) sets
+pub sets_numbered : (sets : List SetOf) → sets_form.Fits sets
+    → AllByRecursion (λ (set : SetOf). IsNumbered set.object) sets
 unfolding sets_form
 sets_numbered sets fits = sets_from 0 sets (fits.1).1
 

@@ -18,7 +18,7 @@ use Rattle.qu_objects.specs.declared.limits.TheConstants.{MOST_PARTS}
 use Rattle.qu_kept.proofs.EachObject.{objects_named}
 use Rattle.qu_rows.specs.Rows.{Asked, objects_of, shown_of, fresh_stamp, unless_alone, fresh_group}
 use Rattle.qu_rows.proofs.FreshGroups.{HasTime, group_whole, each_listed}
-use Rattle.qu_rows.proofs.RisingObjects.{RiseFrom}
+use Rattle.qu_kept.proofs.RisingObjects.{RiseFrom}
 use Rattle.qu_fitting.proofs.FitStamps.{later_time}
 use Rattle.qu_fitting.proofs.PassedRows.{each_weaker}
 use Rattle.qu_fitting.proofs.RisingParts.{PartsRise}

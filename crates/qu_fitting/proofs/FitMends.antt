@@ -17,28 +17,36 @@ use Rattle.qu_frames.specs.declared.verdict.Refusal.TheVariants.{UnknownObject, 
 use Rattle.qu_frames.specs.declared.verdict.Refusal.TheVariants as refusal
 use Rattle.qu_frames.specs.declared.verdict.Verdict.TheVariants.{Refused}
 use Rattle.qu_frames.specs.Formats.{verdict_form}
-use Rattle.qu_class.specs.Class.{class_in}
+use Rattle.qu_stamp.specs.declared.candidate.Candidate.{Candidate}
+use Rattle.qu_history.specs.declared.sets.SetOf.{SetOf}
+use Rattle.qu_class.specs.Class.{is_copy, class_in}
+use Rattle.qu_class.specs.Evidence.{is_read, read_key, evidence_of}
+use Rattle.qu_mends.specs.declared.course.Course.{Course}
 use Rattle.qu_mends.specs.declared.accepted.Accepted.{Accepted}
 use Rattle.qu_mends.specs.declared.remedy.Remedy.{Remedy}
-use Rattle.qu_mends.specs.declared.remedy.Remedy.TheVariants.{Nothing, Shown, Fresh, Unshown, Unplanned}
+use Rattle.qu_mends.specs.declared.remedy.Remedy.TheVariants.{Nothing, Shown, Fresh, Unshown, Unplanned, Outdated}
 use Rattle.qu_mends.specs.declared.mend.Mend.{Mend}
 use Rattle.qu_mends.specs.declared.mending.Mending.{Mending}
-use Rattle.qu_mends.specs.declared.mending.Mending.TheVariants.{Mends, Holds, Refuses, Waits}
-use Rattle.qu_mends.specs.Remedy.{MendPart, base_on, made_group, wanted_by, unless_barrier, member_remedy, remedies_by, remedies_of}
+use Rattle.qu_mends.specs.declared.mending.Mending.TheVariants.{Mends, Holds, Refuses}
+use Rattle.qu_mends.specs.declared.mending.Mending.TheVariants as mending
+use Rattle.qu_mends.specs.Remedy.{MendPart, course_of, made_group, wanted_by, unless_barrier, remedies_by}
 use Rattle.qu_mends.specs.Mending.{missing_in}
 use Rattle.qu_mends.specs.Causes.{RefusesFor, IsPartAdded, ArePartsAdded, IsToldOf, HasCause}
-use Rattle.qu_mends.proofs.Members.{IsPlain, group_is_whole, group_plain}
+use Rattle.qu_mends.proofs.Members.{AreOf, Lists, AllAddPlain, IsCourse, each_course}
 use Rattle.qu_rows.specs.State.{ReplicaState}
-use Rattle.qu_rows.specs.Rows.{Asked, refuse, shown_of, row_few, mend_asked, part_of, mending_on, decision_by, decide_repair}
+use Rattle.qu_rows.specs.declared.decision.Decision.TheVariants.{Waits}
+use Rattle.qu_rows.specs.Rows.{Asked, refuse, shown_of, method_base, row_few, linking_of, missing_of, evidence_for, waits_for, row_evidence, mend_asked, part_of, mending_on, decision_by, decide_repair}
 use Rattle.qu_rows.proofs.MendedObjects.{mending_has_cause}
 use Rattle.qu_versions.specs.Versions.{version_at}
 use Rattle.qu_fitting.specs.Fits.{VersionFits, StateFits}
 use Rattle.qu_fitting.proofs.FitStamps.{CandidateFits, shown_fit, plain_fits}
-use Rattle.qu_fitting.proofs.FitVerdicts.{thin_fits, needs_fits, time_fits, full_fits, current_fits, sound_fits, mended_fits}
-use Rattle.qu_fitting.proofs.FitRepairs.{alike_fits, remedy_fits, made_fits, made_stamp_fits, stored_version_fits, RemedyFits, GroupFits}
-use Rattle.qu_fitting.proofs.FitCopies.{MemberFits, alone_made_fits, made_groups_fit}
+use Rattle.qu_fitting.proofs.FitVerdicts.{thin_fits, needs_fits, stale_fits, time_fits, full_fits, current_fits, sound_fits, mended_fits}
+use Rattle.qu_kept.proofs.RisingObjects.{IsNumbered}
+use Rattle.qu_fitting.proofs.FitOperations.{found_each, each_passing, base_key_fits}
+use Rattle.qu_fitting.proofs.FitRepairs.{CourseFits, course_fits, made_fits, made_stamp_fits, stored_version_fits, RemedyFits, GroupFits}
+use Rattle.qu_fitting.proofs.FitCopies.{MadeFits, alone_made_fits, made_groups_fit}
 use Rattle.qu_fitting.proofs.FitAccepted.{version_fits, AcceptFits, AcceptAllFit}
-use Rattle.qu_fitting.proofs.FitDecisions.{AskedFits, DecisionFits, Gives, past, no_row, found_has, own_fits, unknown, thin, KeyFits}
+use Rattle.qu_fitting.proofs.FitDecisions.{AskedFits, DecisionFits, Gives, past, no_row, found_has, own_fits, sets_numbered, unknown, thin, KeyFits}
 
 -- the version that a remedy wants can be fetched
 unless : (barrier : Bool) (stamp : Stamp) → stamp.barrier ≡ barrier → stamp_form.Fits stamp
@@ -52,6 +60,7 @@ unfolding wanted_by
 wanted_fits object latest Nothing fits = tt
 wanted_fits object latest (Unshown member) fits = tt
 wanted_fits object latest (Unplanned other) fits = tt
+wanted_fits object latest (Outdated other) fits = tt
 wanted_fits object latest (Shown candidate) fits = unless (candidate.stamp.barrier) candidate.stamp refl fits.stamp
 wanted_fits object latest (Fresh true prior) fits = tt
 wanted_fits object latest (Fresh false prior) fits = plain_fits prior fits.plain fits.fits
@@ -65,44 +74,47 @@ numbered_member least member is =
     omega (arith, below)
 
 module _ (state : ReplicaState) (asked : Asked) (fits : StateFits state) (asks : AskedFits asked) where
+  abbrev RemedyFitsOf : ObjectId × Remedy → Type 0
+  RemedyFitsOf mended = RemedyFits mended.0 (latest_of (shown_of asked mended.0)) mended.1
+
   -- an object has a number, and what mends it fits, also with this group of what is made
   module _ (made : List (ObjectId × ℕ)) where
     abbrev MendedFits : ObjectId × Remedy → Type 0
     MendedFits mended =
-        ((mended.0).0 ≤ OBJECT_IDS - 1) × RemedyFits mended.0 (latest_of (shown_of asked mended.0)) mended.1
+        ((mended.0).0 ≤ OBJECT_IDS - 1) × RemedyFitsOf mended
         × GroupFits made mended.0 (latest_of (shown_of asked mended.0)) mended.1
 
     abbrev AllMendedFit : List (ObjectId × Remedy) → Type 0
     AllMendedFit remedies = AllByRecursion MendedFits remedies
 
-    members_fit_from : (bounds : ℕ) (remedy : Remedy) (least : ℕ) (group : List (ObjectId × ℕ))
-        → are_members_from least group ≡ true → AllByRecursion (MemberFits asked bounds made remedy) group
-        → AllMendedFit (map (member_remedy bounds asked.sets remedy) group)
+    members_fit_from : (least : ℕ) (group : List (ObjectId × ℕ)) → are_members_from least group ≡ true
+        → (members : List (ObjectId × Remedy)) → AreOf group members → AllByRecursion RemedyFitsOf members
+        → AllByRecursion (MadeFits asked made) members → AllMendedFit members
     unfolding are_members_from
-    members_fit_from bounds remedy least [] rise grouped = tt
-    members_fit_from bounds remedy least (member ∷ later) rise grouped =
+    members_fit_from least [] rise [] of fit grouped = tt
+    members_fit_from least [] rise (mended ∷ more) of fit grouped = absurd of
+    members_fit_from least (member ∷ later) rise [] of fit grouped = absurd of
+    members_fit_from least (member ∷ later) rise (mended ∷ more) of fit grouped =
         let both = and_parts (is_member_from least member) (are_members_from ((member.0).0 + 1) later) rise in (
           (
-            numbered_member least member both.0,
-            alike_fits bounds member.0 (entries_of member.0 asked.sets) (shown_fit asked.sets asks.sets member.0)
-                remedy,
+            subst (λ (it : ObjectId). it.0 ≤ OBJECT_IDS - 1) (sym of.0) (numbered_member least member both.0),
+            fit.0,
             grouped.0,
           ),
-          members_fit_from bounds remedy ((member.0).0 + 1) later both.1 grouped.1,
+          members_fit_from ((member.0).0 + 1) later both.1 more of.1 fit.1 grouped.1,
         )
 
-  remedies_fit : (bounds : ℕ) (target : ObjectId) (remedy : Remedy) (group : List (ObjectId × ℕ))
-      → is_group group ≡ true → target.0 ≤ OBJECT_IDS - 1
-      → RemedyFits target (latest_of (shown_of asked target)) remedy
-      → ((member : ObjectId × ℕ) (later : List (ObjectId × ℕ)) → group ≡ member ∷ later → IsPlain remedy)
-      → AllMendedFit (made_group asked.sets group) (remedies_by bounds asked.sets target remedy group)
+  remedies_fit : (target : ObjectId) → target.0 ≤ OBJECT_IDS - 1 → (course : Course)
+      → RemedyFitsOf (target, course.remedy) → AllByRecursion RemedyFitsOf course.members
+      → AllAddPlain course.members → (group : List (ObjectId × ℕ)) → is_group group ≡ true → Lists group course.members
+      → AllMendedFit (made_group asked.sets group) (remedies_by target course group)
   unfolding remedies_by is_group
-  remedies_fit bounds target remedy [] is within fit plain =
-      ((within, fit, alone_made_fits target (latest_of (shown_of asked target)) remedy), tt)
-  remedies_fit bounds target remedy (member ∷ later) is within fit plain =
-      members_fit_from (made_group asked.sets (member ∷ later)) bounds remedy 0 (member ∷ later)
+  remedies_fit target within course fit fits plain [] is lists =
+      ((within, fit, alone_made_fits target (latest_of (shown_of asked target)) course.remedy), tt)
+  remedies_fit target within course fit fits plain (member ∷ later) is lists =
+      members_fit_from (made_group asked.sets (member ∷ later)) 0 (member ∷ later)
       (and_parts (is_group_size (length (member ∷ later))) (are_members_from 0 (member ∷ later)) is).1
-      (made_groups_fit asked bounds remedy (plain member later refl) (member ∷ later) is)
+      course.members lists fits (made_groups_fit asked (member ∷ later) is course.members lists plain)
 
   -- ---- what the replica has of each
 
@@ -158,20 +170,60 @@ module _ (state : ReplicaState) (asked : Asked) (fits : StateFits state) (asks :
     unfolding row_few
     few = refused_if (Thin object) _ (thin_fits object within)
 
+    key_read : (set : SetOf) → IsNumbered set.object → (test : Bool) (found : Option Candidate)
+        → method_base state asked set.object ≡ found → (key : ObjectId × Stamp)
+        → cond test (option_map (λ (version : Candidate). (set.object, version.stamp)) found) None ≡ Some key
+        → KeyFits key
+    key_read set numbered false found is key given = absurd (none-some key given)
+    key_read set numbered true None is key given = absurd (none-some key given)
+    key_read set numbered true (Some version) is key given =
+        subst KeyFits (same_Some (set.object, version.stamp) key given)
+        (base_key_fits state asked fits asks set.object numbered version is)
+
+    evidence_fits : (copied : Bool)
+        → AllByRecursion KeyFits (cond copied (evidence_of state.keys.bounds asked.sets object) [])
+    unfolding evidence_of
+    evidence_fits false = tt
+    evidence_fits true =
+        found_each (λ (set : SetOf). IsNumbered set.object) KeyFits
+        (λ (set : SetOf). read_key state.keys.bounds asked.sets object set.object)
+        (λ set numbered key given. key_read set numbered (is_read state.keys.bounds asked.sets object set.object)
+        (method_base state asked set.object) refl key given) asked.sets (sets_numbered asked.sets asks.sets)
+
+    waits-fit : (missing : List (ObjectId × Stamp)) → AllByRecursion KeyFits missing → Gives (waits_for missing)
+    waits-fit [] fit decision given = absurd (none-some decision given)
+    waits-fit (key ∷ more) fit decision given =
+        subst DecisionFits (same_Some (Waits (key ∷ more)) decision given) fit
+
+    evidence : Gives (row_evidence state asked object)
+    unfolding row_evidence
+    evidence = waits-fit (missing_of state (evidence_for state asked object))
+        (each_passing KeyFits _ (evidence_for state asked object)
+        (evidence_fits (is_copy (class_in state.keys.bounds asked.sets object))))
+
     abbrev mend : Mend
     mend = mend_asked state asked object
 
+    abbrev course : Course
+    course = course_of state.keys.bounds asked.sets (linking_of state) object
+
+    fits_of_course : CourseFits state.keys.bounds asked.sets (linking_of state) (shown_fit asked.sets asks.sets) object
+        course
+    fits_of_course =
+        course_fits state.keys.bounds asked.sets (linking_of state) (shown_fit asked.sets asks.sets) object within
+
     mend_fits : RemedyFits object mend.latest mend.remedy
-    mend_fits = remedy_fits state.keys.bounds asked.sets object (shown_fit asked.sets asks.sets object)
+    mend_fits = fits_of_course.remedy
 
     abbrev remedies : List (ObjectId × Remedy)
-    remedies = remedies_of state.keys.bounds asked.sets mend
+    remedies = mend.remedies
 
     all_fit : AllMendedFit mend.made remedies
     all_fit =
-        remedies_fit state.keys.bounds object mend.remedy mend.group
-        (group_is_whole (base_on state.keys.bounds asked.sets object) (class_in state.keys.bounds asked.sets object)
-        mend.remedy) within mend_fits (group_plain state.keys.bounds asked.sets object)
+        let is : IsCourse state.keys.bounds asked.sets course =
+        each_course state.keys.bounds asked.sets (linking_of state) object in
+        remedies_fit object within course fits_of_course.remedy fits_of_course.members is.plain course.group is.whole
+        is.lists
 
     why_fits : (why : Refusal) → RefusesFor mend (parts_by remedies) why → verdict_form.Fits (Refused why)
     why_fits (NotCurrent on stamp) cause =
@@ -198,7 +250,7 @@ module _ (state : ReplicaState) (asked : Asked) (fits : StateFits state) (asks :
       | inl unshown ↦ needs_fits on (subst (RemedyFits object mend.latest) unshown mend_fits)
       | inr unplanned ↦ needs_fits on (subst (RemedyFits object mend.latest) unplanned mend_fits)
     ]
-    why_fits (Stale on) cause = absurd cause
+    why_fits (Stale on) cause = stale_fits on (subst (RemedyFits object mend.latest) cause mend_fits)
     why_fits (NotMethod on class) cause = absurd cause
     why_fits (refusal.Spent on number) cause = absurd cause
     why_fits (UnknownObject on) cause = absurd cause
@@ -213,14 +265,15 @@ module _ (state : ReplicaState) (asked : Asked) (fits : StateFits state) (asks :
     added_fits mended one fit added =
         let part : MendPart = part_of state asked mended in
         let made : CandidateFits mended.0 one.candidate =
-        made_fits mend mended.0 asks.low asks.high asks.set part.latest mended.1 one.candidate fit.1 fit.2 added.makes in
+        made_fits mend mended.0 asks.low asks.high asks.set part.latest mended.1 one.candidate fit.1 fit.2
+        added.makes in
         record {
           stamp = made.stamp;
           prior = made.prior;
           group = subst (λ (it : ObjectId). (group_form it one.candidate.stamp).Fits one.candidate.group)
               (sym added.object) made.group;
-          version = stored_version_fits mended.1 part.version one.state (found_fits mended.0 (wanted_by mended.1))
-              added.version;
+          version = stored_version_fits mended.0 one.candidate made mended.1 part.version one.state
+              (found_fits mended.0 (wanted_by mended.1)) added.version;
         }
 
     all_added_fit : (some : List (ObjectId × Remedy)) (accepted : List Accepted) → AllMendedFit mend.made some
@@ -236,7 +289,7 @@ module _ (state : ReplicaState) (asked : Asked) (fits : StateFits state) (asks :
         (mended_fits object within stamp (told_fits stamp cause.0), all_added_fit remedies accepted all_fit cause.1)
     caused_fits (Holds stamp) cause = (mended_fits object within stamp (told_fits stamp cause.0), tt)
     caused_fits (Refuses why) cause = (why_fits why cause, tt)
-    caused_fits (Waits missing) cause =
+    caused_fits (mending.Waits missing) cause =
         subst (AllByRecursion KeyFits) (sym cause.0) (missing_fit mend.made remedies all_fit)
 
     mended : Gives (Some (decision_by object (mending_on state asked object)))
@@ -248,4 +301,5 @@ module _ (state : ReplicaState) (asked : Asked) (fits : StateFits state) (asks :
     unfolding decide_repair
     mend_decision-fits =
         past _ _ (unknown state asked fits asks) (λ _.
-        past _ _ (thin state asked fits asks) (λ _. past _ _ few (λ _. past _ _ mended (λ _. no_row))))
+        past _ _ (thin state asked fits asks) (λ _.
+        past _ _ few (λ _. past _ _ evidence (λ _. past _ _ mended (λ _. no_row)))))

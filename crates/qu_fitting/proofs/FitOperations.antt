@@ -46,13 +46,13 @@ use Rattle.qu_fitting.proofs.CarriedEach.{fresh_upon, with_stamps, accepted_each
 use Rattle.qu_fitting.proofs.FitAccepted.{AcceptAllFit, version_fits}
 use Rattle.qu_fitting.proofs.FitDecisions.{AskedFits, KeyFits, DecisionFits, Gives, past, no_row, refusing, found_has, own_fits, unknown, thin}
 use Rattle.qu_fitting.proofs.FitGroups.{fresh_groups_fit}
-use Rattle.qu_fitting.proofs.FitLinks.{links-read, links-fit, others_fit, links_with}
+use Rattle.qu_kept.proofs.FitLinks.{links-read, links-fit, others_fit, links_with}
 use Rattle.qu_fitting.proofs.FitStamps.{CandidateFits, stamp_fits, later_time, not_opening, prior_fits, shown_fit, base_latest, base_shown, plain_fits}
 use Rattle.qu_fitting.proofs.FitStandings.{StandingFits, standing_in-fits}
 use Rattle.qu_fitting.proofs.FitVerdicts.{time_fits, full_fits, method_fits, current_fits, spent_fits, stamps_fit, done_fits, told_fits, already_fits, performed_fits, values_fitting, read_fits}
 use Rattle.qu_fitting.proofs.FitVersions.{act_sized}
 use Rattle.qu_fitting.proofs.PassedRows.{each_weaker, base_of, before_of, passed_method, passed_version}
-use Rattle.qu_rows.proofs.RisingObjects.{IsNumbered, all_numbered, all_distinct}
+use Rattle.qu_kept.proofs.RisingObjects.{IsNumbered, all_numbered, all_distinct}
 use Rattle.qu_fitting.proofs.RisingParts.{PartsRise}
 
 -- ---- what is found of each object
@@ -65,12 +65,12 @@ module _ {X Y : Type 0} (Q : X → Type 0) (P : Y → Type 0) (of : X → Option
   one_found None rest here all = all
   one_found (Some one) rest here all = (here one refl, all)
 
-  found_each : (items : List X) → AllByRecursion Q items → AllByRecursion P (filter_map of items)
+  pub found_each : (items : List X) → AllByRecursion Q items → AllByRecursion P (filter_map of items)
   found_each [] all = tt
   found_each (item ∷ later) all =
       one_found (of item) (filter_map of later) (has item all.0) (found_each later all.1)
 
-each_passing : {X : Type 0} (P : X → Type 0) (test : X → Bool) (items : List X) → AllByRecursion P items
+pub each_passing : {X : Type 0} (P : X → Type 0) (test : X → Bool) (items : List X) → AllByRecursion P items
     → AllByRecursion P (filter test items)
 each_passing P test [] all = tt
 each_passing P test (item ∷ later) all =
@@ -162,6 +162,15 @@ module _ (state : ReplicaState) (asked : Asked) (fits : StateFits state) (asks :
       → stamp_form.Fits base.stamp
   base_fits object base is =
       (shown_fit asked.sets asks.sets object base (base_shown state.keys.bounds (shown_of asked object) base is)).stamp
+
+  -- its version can be fetched
+  pub base_key_fits : (object : ObjectId) → IsNumbered object → (base : Candidate)
+      → method_base state asked object ≡ Some base → KeyFits (object, base.stamp)
+  base_key_fits object within base is = record {
+    object = within;
+    stamp = plain_fits base.stamp (method_at_plain state.keys.bounds (shown_of asked object) base is)
+        (base_fits object base is);
+  }
 
   fresh_fits : (object : ObjectId) → (latest_of (shown_of asked object)).time + 1 ≤ LAST_TIME
       → stamp_form.Fits (fresh_stamp asked object)
@@ -258,11 +267,7 @@ module _ (state : ReplicaState) (asked : Asked) (fits : StateFits state) (asks :
         ≡ Some key → KeyFits key
     key_of object within None is key given = absurd (none-some key given)
     key_of object within (Some base) is key given =
-        subst KeyFits (same_Some (object, base.stamp) key given) (record {
-          object = within;
-          stamp = plain_fits base.stamp (method_at_plain state.keys.bounds (shown_of asked object) base is)
-              (base_fits object base is);
-        })
+        subst KeyFits (same_Some (object, base.stamp) key given) (base_key_fits object within base is)
 
     lacking : Gives (row_version state asked objects)
     unfolding row_version

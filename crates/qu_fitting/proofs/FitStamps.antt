@@ -152,7 +152,7 @@ joined_fit object one two fits later held holding =
     (sym (list_any-append (λ (it : Candidate). same it held) one two) ∙ holding)
 
 -- two objects with one number are one
-object_is : (one other : ObjectId) → (one.0 == other.0) ≡ true → one ≡ other
+pub object_is : (one other : ObjectId) → (one.0 == other.0) ≡ true → one ≡ other
 object_is one other is = λ i. record { 0 = eqb-true one.0 other.0 is i }
 
 entries_fit : (object : ObjectId) (least : ℕ) (entries : List Sealed)

@@ -18,7 +18,7 @@ use Rattle.qu_kept.specs.Standing.{is_repeated, told_again, told_by_first, spent
 use Rattle.qu_kept.proofs.EachObject.{objects_named}
 use Rattle.qu_rows.specs.Rows.{Asked, standing_in}
 use Rattle.qu_fitting.specs.Fits.{RowFits, VersionFits}
-use Rattle.qu_rows.proofs.RisingObjects.{IsNumbered}
+use Rattle.qu_kept.proofs.RisingObjects.{IsNumbered}
 
 abbrev pub StandingFits : Standing → Type 0
 StandingFits Fresh = Unit {0}

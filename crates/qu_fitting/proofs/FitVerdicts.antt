@@ -33,7 +33,7 @@ use Rattle.qu_frames.specs.declared.verdict.Verdict.TheVariants.{Done, Told, Alr
 use Rattle.qu_frames.specs.Formats.{class_form, refusal_form, stamp_from, after_told, stamps_form, verdict_form}
 use Rattle.qu_fitting.specs.Fits.{ValueFits}
 use Rattle.qu_fitting.proofs.CarriedEach.{with_stamps}
-use Rattle.qu_rows.proofs.RisingObjects.{RiseFrom}
+use Rattle.qu_kept.proofs.RisingObjects.{RiseFrom}
 use Rattle.qu_fitting.proofs.RisingParts.{PartsRise}
 use Rattle.qu_fitting.proofs.FitValues.{refusal_within, IsFitting, applied_fits, value_told-fits, left_fits}
 
@@ -70,6 +70,10 @@ module _ (object : ObjectId) (within : object.0 ≤ OBJECT_IDS - 1) where
   pub needs_fits : verdict_form.Fits (Refused (refusal.Needs object))
   unfolding refusal_form
   needs_fits = refused_fits _ (((omega arith, omega arith), refl), (omega arith, within))
+
+  pub stale_fits : verdict_form.Fits (Refused (refusal.Stale object))
+  unfolding refusal_form
+  stale_fits = refused_fits _ (((omega arith, omega arith), refl), (omega arith, within))
 
   pub sound_fits : verdict_form.Fits (Refused (Sound object))
   unfolding refusal_form

@@ -14,7 +14,7 @@ use Rattle.qu_objects.specs.States.{row_form, is_later_client, kept_form, links_
 use Rattle.qu_kept.specs.Keyed.{Rising}
 use Rattle.qu_kept.specs.Rows.{client_of, AreRising, IsOfClients}
 use Rattle.qu_kept.proofs.KeyedLaws.{rising_within}
-use Rattle.qu_fitting.proofs.RisingForms.{IsAbove, none_before, rising_fits, all_read, rising_read}
+use Rattle.qu_kept.proofs.RisingForms.{IsAbove, none_before, rising_fits, all_read, rising_read}
 use Rattle.qu_fitting.specs.Fits.{RowFits, VersionFits}
 
 -- an act's digest has 32 bytes

@@ -8,8 +8,6 @@ pub mod FitAccepted
 pub mod FitDecisions
 pub mod FitOperations
 pub mod FitStandings
-pub mod FitLinks
-pub mod RisingForms
 pub mod RisingParts
 pub mod FitRepairs
 pub mod FitCopies

@@ -7,7 +7,7 @@ use Rattle.qu_objects.specs.declared.limits.TheConstants.{MOST_PARTS}
 use Rattle.qu_objects.specs.Formats.{part_form, parts_form}
 use Rattle.qu_objects.proofs.PartLaws.{after_object, is_from}
 use Rattle.qu_kept.proofs.EachObject.{objects_named}
-use Rattle.qu_rows.proofs.RisingObjects.{RiseFrom}
+use Rattle.qu_kept.proofs.RisingObjects.{RiseFrom}
 
 -- as many as an answer has room for, of rising objects
 pub record PartsRise {X : Type 0} (parts : List (ObjectId × X)) : Type 0 where

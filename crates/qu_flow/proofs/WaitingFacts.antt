@@ -1,15 +1,17 @@
 -- Facts on letters that wait.
-use Rattle.std.proofs.Common.{◌≡◌, ℕ, zero, suc, ◌+◌, ◌<◌, ◌≤◌, Bool, true, false, cond, List, [], ◌∷◌, ◌++◌, length, Option, None, Some, refl, sym, ap, subst, ◌∙◌, arith, inl, inr, ◌||◌, ◌&&◌, ◌==◌, nat_le}
+use Rattle.std.proofs.Common.{◌≡◌, ℕ, zero, suc, ◌+◌, ◌<◌, ◌≤◌, Bool, true, false, cond, List, [], ◌∷◌, ◌++◌, length, take, drop, get_or, Option, None, Some, refl, sym, ap, subst, ◌∙◌, arith, inl, inr, ◌||◌, ◌&&◌, ◌==◌, nat_le}
 use Rattle.std.specs.Prelude.{slice_get, is_some, Result, Ok, Err, OnOk, OnErr}
 use Rattle.std.specs.Borrow.{Bor}
 use Rattle.std.specs.List.{list_any}
 use Rattle.std.specs.Option.{option_copied}
 use Rattle.std.proofs.lemmas.Bool.{cases_lt, false≢true, or_left, or_right, eqb-true}
+use Rattle.std.proofs.lemmas.List.{take-append-drop, take-append-le, length-append}
 use Rattle.std.proofs.lemmas.Bool.Decides.{nat_tests}
-use Rattle.std.proofs.lemmas.List.Folds.{list_any-append}
+use Rattle.std.proofs.lemmas.List.Folds.{list_any-append, list_any_more}
 use Rattle.std.proofs.lemmas.Grind.{flat_map-append}
 use Rattle.std.proofs.lemmas.Option.{slice_get_within}
 use Rattle.qu_trace.specs.declared.event.Event.{Event}
+use Rattle.qu_trace.specs.declared.event.Event.TheVariants as event
 use Rattle.qu_frames.specs.declared.frame.Letter.{Letter}
 use Rattle.qu_trace.specs.declared.trace.Entry.{Entry}
 use Rattle.qu_trace.specs.declared.trace.Setup.{Setup}
@@ -18,7 +20,8 @@ use Rattle.qu_world.specs.declared.fail.WorldFail.{WorldFail}
 use Rattle.qu_world.specs.State.{WorldState, numbered}
 use Rattle.qu_world.specs.Step.{world_step, is_to_faulty}
 use Rattle.qu_world.proofs.RunLaws.{Records, step_records}
-use Rattle.qu_flow.specs.Waiting.{delivers, is_delivered, is_passed_over, is_left, waiting_from, AreLeft, MayBeginAt, IsSearched, begin_behind}
+use Rattle.qu_flow.specs.Waiting.{delivers, delivers_from, is_delivered, is_passed_over, is_left, waiting_from, AreLeft, DeliverBelow, MayBeginAt, IsSearched, begin_at, begin_behind}
+use Rattle.qu_flow.specs.declared.waiting.Begin.{Begin}
 use Rattle.qu_flow.specs.Outage.{OutageState, is_held_back}
 
 -- ---- numbers of letters
@@ -82,29 +85,31 @@ waits_at setup entries outage letter (suc count) next left one low high waits =
     ]
 
 -- a letter that waits, where flow takes none below it
-pub waiting_found : (setup : Setup) (entries : List Entry) (outage : OutageState) (next letter : ℕ)
-    → IsSearched setup entries outage next letter → letter ≤ length (letters_of entries)
+pub waiting_found : (setup : Setup) (entries : List Entry) (outage : OutageState) (event next letter : ℕ)
+    → IsSearched setup entries outage event next letter → letter ≤ length (letters_of entries)
     → is_left setup entries outage letter ≡ false
     → Some letter ≡ waiting_from setup entries outage 1 (length (letters_of entries))
-waiting_found setup entries outage next letter so_far within waits =
+waiting_found setup entries outage event next letter so_far within waits =
     sym (waits_at setup entries outage 1 (length (letters_of entries)) letter so_far.none (omega arith)
     so_far.is_letter (omega arith) waits)
 
 -- flow takes no letter
-pub waiting_none : (setup : Setup) (entries : List Entry) (outage : OutageState) (next letter : ℕ)
-    → IsSearched setup entries outage next letter → length (letters_of entries) < letter
+pub waiting_none : (setup : Setup) (entries : List Entry) (outage : OutageState) (event next letter : ℕ)
+    → IsSearched setup entries outage event next letter → length (letters_of entries) < letter
     → None ≡ waiting_from setup entries outage 1 (length (letters_of entries))
-waiting_none setup entries outage next letter so_far past =
+waiting_none setup entries outage event next letter so_far past =
     sym (waits_none setup entries outage 1 (length (letters_of entries)) letter so_far.none (omega arith)
     (omega arith))
 
 -- ---- the steps of a search
 
-pub search_begins : (setup : Setup) (entries : List Entry) (outage : OutageState) (next : ℕ)
-    → MayBeginAt setup entries outage.lost next → IsSearched setup entries outage next next
-search_begins setup entries outage next may = record {
-  may = may;
+pub search_begins : (setup : Setup) (entries : List Entry) (outage : OutageState) (begin : Begin)
+    → MayBeginAt setup entries outage.lost begin
+    → IsSearched setup entries outage begin.event begin.letter begin.letter
+search_begins setup entries outage begin may = record {
+  may = record { is_letter = may.is_letter; passed = may.passed; within = may.within; below = may.below };
   is_letter = may.is_letter;
+  behind = omega arith;
   none = λ letter one below. or_left _ _ (may.passed letter one below);
 }
 
@@ -119,37 +124,84 @@ at_or_below P letter after it is here below within =
     ]
 
 -- one letter more is passed over for good, or the beginning stays
-begins_behind : (setup : Setup) (entries : List Entry) (lost next letter after : ℕ) (is_passed is_same : Bool)
+begins_behind : (setup : Setup) (entries : List Entry) (lost event next letter after : ℕ) (is_passed is_same : Bool)
     → is_passed ≡ is_passed_over setup entries lost letter → is_same ≡ (next == letter) → after ≡ letter + 1
-    → MayBeginAt setup entries lost next
-    → MayBeginAt setup entries lost (cond (is_passed && is_same) after next)
-begins_behind setup entries lost next letter after false is_same passed same is may = may
-begins_behind setup entries lost next letter after true false passed same is may = may
-begins_behind setup entries lost next letter after true true passed same is may =
+    → MayBeginAt setup entries lost (begin_at event next)
+    → MayBeginAt setup entries lost (begin_at event (cond (is_passed && is_same) after next))
+begins_behind setup entries lost event next letter after false is_same passed same is may = may
+begins_behind setup entries lost event next letter after true false passed same is may = may
+begins_behind setup entries lost event next letter after true true passed same is may =
     let here : next ≡ letter = eqb-true _ _ (sym same) in
     record {
       is_letter = omega arith;
       passed = λ it one within.
           at_or_below (λ (it : ℕ). is_passed_over setup entries lost it ≡ true) letter after it is (sym passed)
           (λ (low : it < letter). may.passed it one (omega arith)) within;
+      within = may.within;
+      below = λ it from. may.below it (omega arith);
     }
 
-pub search_goes_on : (setup : Setup) (entries : List Entry) (outage : OutageState) (next letter after moved : ℕ)
-    (is_passed : Bool) → IsSearched setup entries outage next letter
+moved_behind : (next letter after : ℕ) (is_passed is_same : Bool) → next ≤ letter → after ≡ letter + 1
+    → cond (is_passed && is_same) after next ≤ after
+moved_behind next letter after false is_same low is = omega arith
+moved_behind next letter after true false low is = omega arith
+moved_behind next letter after true true low is = omega arith
+
+pub search_goes_on : (setup : Setup) (entries : List Entry) (outage : OutageState)
+    (event next letter after moved : ℕ) (is_passed : Bool) → IsSearched setup entries outage event next letter
     → is_passed ≡ is_passed_over setup entries outage.lost letter
     → (is_passed || is_held_back outage.held (numbered (letters_of entries) letter)) ≡ true
     → after ≡ letter + 1 → moved ≡ begin_behind is_passed next letter after
-    → IsSearched setup entries outage moved after
-search_goes_on setup entries outage next letter after moved is_passed so_far passed left is moves = record {
-  may = subst (λ (it : ℕ). MayBeginAt setup entries outage.lost it) (sym moves)
-      (begins_behind setup entries outage.lost next letter after is_passed (next == letter) passed refl is so_far.may);
+    → IsSearched setup entries outage event moved after
+search_goes_on setup entries outage event next letter after moved is_passed so_far passed left is moves = record {
+  may = subst (λ (it : ℕ). MayBeginAt setup entries outage.lost (begin_at event it)) (sym moves)
+      (begins_behind setup entries outage.lost event next letter after is_passed (next == letter) passed refl is
+      so_far.may);
   is_letter = omega arith;
+  behind = subst (λ (it : ℕ). it ≤ after) (sym moves)
+      (moved_behind next letter after is_passed (next == letter) so_far.behind is);
   none = λ it one within.
       at_or_below (λ (it : ℕ). is_left setup entries outage it ≡ true) letter after it is
       (ap (λ (test : Bool). test || is_held_back outage.held (numbered (letters_of entries) letter)) (sym passed)
       ∙ left)
       (λ (low : it < letter). so_far.none it one low) within;
 }
+
+-- no event before the first that a search looks at delivers a letter that it comes to
+pub not_before : (setup : Setup) (entries : List Entry) (outage : OutageState) (event next letter : ℕ)
+    → IsSearched setup entries outage event next letter → is_delivered (take event entries) letter ≡ false
+not_before setup entries outage event next letter so_far = so_far.may.below letter so_far.behind
+
+-- ---- the events that a search need not look at
+
+-- where the first events do not deliver a letter, the others tell whether it was delivered
+pub delivered_behind : (entries : List Entry) (event letter : ℕ) → is_delivered (take event entries) letter ≡ false
+    → is_delivered (drop event entries) letter ≡ is_delivered entries letter
+unfolding is_delivered
+delivered_behind entries event letter none =
+    ap (λ (test : Bool). test || list_any (λ (entry : Entry). delivers letter entry.event) (drop event entries))
+    (sym none)
+    ∙ sym (list_any-append (λ (entry : Entry). delivers letter entry.event) (take event entries) (drop event entries))
+    ∙ ap (list_any (λ (entry : Entry). delivers letter entry.event)) (take-append-drop event entries)
+
+below_it : (next letter : ℕ) (event : Event) → delivers_from next event ≡ false → next ≤ letter
+    → delivers letter event ≡ false
+below_it next letter (event.Invoke client op) not from = refl
+below_it next letter (event.Deliver number) not from = grind (arith, nat_tests)
+below_it next letter (event.Tick client) not from = refl
+below_it next letter (event.Inject party text) not from = refl
+
+or_none : (one other : Bool) → one ≡ false → other ≡ false → (one || other) ≡ false
+or_none one other first second = cc
+
+-- one event more delivers a letter below the next one
+pub one_below : (entries : List Entry) (count next : ℕ) (entry : Entry) → count < length entries
+    → delivers_from next (get_or entries count entry).event ≡ false
+    → DeliverBelow (take count entries) next → DeliverBelow (take (count + 1) entries) next
+unfolding is_delivered
+one_below entries count next entry within not below = λ letter from.
+    list_any_more (λ (it : Entry). delivers letter it.event) entries count entry within
+    ∙ or_none _ _ (below letter from) (below_it next letter (get_or entries count entry).event not from)
 
 -- ---- where a search may begin
 
@@ -208,37 +260,49 @@ passed-append setup entries entry lost letter is =
     by_case setup entries entry lost letter (nat_le letter lost)
     (is_to_faulty setup (numbered (letters_of entries) letter)) refl refl is
 
-by_records : (old new : WorldState) (event : Event) (lost next : ℕ) → Records old new event
-    → MayBeginAt old.setup old.entries lost next → MayBeginAt new.setup new.entries lost next
-by_records old new event lost next made may = record {
+below-append : (entries : List Entry) (entry : Entry) (event next : ℕ) → event ≤ length entries
+    → DeliverBelow (take event entries) next → DeliverBelow (take event (entries ++ entry ∷ [])) next
+below-append entries entry event next within below =
+    subst (λ (it : List Entry). DeliverBelow it next) (sym (take-append-le event entries (entry ∷ []) within)) below
+
+by_records : (old new : WorldState) (event : Event) (lost : ℕ) (begin : Begin) → Records old new event
+    → MayBeginAt old.setup old.entries lost begin → MayBeginAt new.setup new.entries lost begin
+by_records old new event lost begin made may = record {
   is_letter = may.is_letter;
   passed = λ letter one below.
       ap (λ (setup : Setup). is_passed_over setup new.entries lost letter) made.setup
       ∙ ap (λ (entries : List Entry). is_passed_over old.setup entries lost letter) made.entries
       ∙ passed-append old.setup old.entries made.entry lost letter (may.passed letter one below);
+  within = subst (λ (it : List Entry). begin.event ≤ length it) (sym made.entries)
+      (omega (arith, length-append old.entries (made.entry ∷ []), may.within));
+  below = subst (λ (it : List Entry). DeliverBelow (take begin.event it) begin.letter) (sym made.entries)
+      (below-append old.entries made.entry begin.event begin.letter may.within may.below);
 }
 
 -- what flow passes over stays so
-begins_after : (old new : WorldState) (event : Event) (lost next : ℕ) → new ≡ world_step old event
-    → MayBeginAt old.setup old.entries lost next → MayBeginAt new.setup new.entries lost next
-begins_after old new event lost next is may =
-    subst (λ (it : WorldState). MayBeginAt it.setup it.entries lost next) (sym is)
-    (by_records old (world_step old event) event lost next (step_records old event) may)
+begins_after : (old new : WorldState) (event : Event) (lost : ℕ) (begin : Begin) → new ≡ world_step old event
+    → MayBeginAt old.setup old.entries lost begin → MayBeginAt new.setup new.entries lost begin
+begins_after old new event lost begin is may =
+    subst (λ (it : WorldState). MayBeginAt it.setup it.entries lost begin) (sym is)
+    (by_records old (world_step old event) event lost begin (step_records old event) may)
 
-pub begins_applied : (old new : WorldState) (event : Event) (lost next : ℕ) (result : Result (Unit {0}) WorldFail)
-    → OnOk result (new ≡ world_step old event) → OnErr result (new ≡ old)
-    → MayBeginAt old.setup old.entries lost next → MayBeginAt new.setup new.entries lost next
-begins_applied old new event lost next (Ok made) ok err may = begins_after old new event lost next ok may
-begins_applied old new event lost next (Err why) ok err may =
-    subst (λ (it : WorldState). MayBeginAt it.setup it.entries lost next) (sym err) may
+pub begins_applied : (old new : WorldState) (event : Event) (lost : ℕ) (begin : Begin)
+    (result : Result (Unit {0}) WorldFail) → OnOk result (new ≡ world_step old event) → OnErr result (new ≡ old)
+    → MayBeginAt old.setup old.entries lost begin → MayBeginAt new.setup new.entries lost begin
+begins_applied old new event lost begin (Ok made) ok err may = begins_after old new event lost begin ok may
+begins_applied old new event lost begin (Err why) ok err may =
+    subst (λ (it : WorldState). MayBeginAt it.setup it.entries lost begin) (sym err) may
 
 leb_below : (letter lost : ℕ) → letter ≤ lost → nat_le letter lost ≡ true
 leb_below letter lost low = grind (arith, nat_tests)
 
 -- where all letters so far were lost, a search may begin behind them
 pub begins_lost : (setup : Setup) (entries : List Entry) (lost next : ℕ) → next ≡ lost + 1
-    → MayBeginAt setup entries lost next
+    → MayBeginAt setup entries lost (begin_at 0 next)
+unfolding is_delivered
 begins_lost setup entries lost next is = record {
   is_letter = omega arith;
   passed = λ letter one below. or_left _ _ (leb_below letter lost (omega arith));
+  within = omega arith;
+  below = λ letter from. refl;
 }

@@ -1,5 +1,5 @@
 -- The letters that a flow takes, the lowest one first, and the search for it.
-use Rattle.std.specs.Prelude.{◌≡◌, ◌≤◌, ◌<◌, ℕ, zero, suc, ◌+◌, ◌==◌, nat_le, ◌||◌, ◌&&◌, Bool, true, false, if◌then◌else◌, List, Option, None, Some}
+use Rattle.std.specs.Prelude.{◌≡◌, ◌≤◌, ◌<◌, ℕ, zero, suc, ◌+◌, ◌==◌, nat_le, ◌||◌, ◌&&◌, Bool, true, false, if◌then◌else◌, List, length, take, Option, None, Some}
 use Rattle.std.specs.List.{list_any}
 use Rattle.qu_trace.specs.declared.event.Event.{Event}
 use Rattle.qu_trace.specs.declared.event.Event.TheVariants as event
@@ -9,6 +9,7 @@ use Rattle.qu_trace.specs.Letters.{letters_of}
 use Rattle.qu_world.specs.State.{numbered}
 use Rattle.qu_world.specs.Step.{is_to_faulty}
 use Rattle.qu_flow.specs.Outage.{OutageState, is_held_back}
+use Rattle.qu_flow.specs.declared.waiting.Begin.{Begin}
 
 abbrev pub delivers : ℕ → Event → Bool
 delivers letter (event.Invoke client op) = false
@@ -49,15 +50,34 @@ abbrev pub AreLeft : Setup → List Entry → OutageState → ℕ → Type 0
 AreLeft setup entries outage next =
     (letter : ℕ) → 1 ≤ letter → letter < next → is_left setup entries outage letter ≡ true
 
--- a search for a letter that waits may begin at this one
-pub record MayBeginAt (setup : Setup) (entries : List Entry) (lost next : ℕ) : Type 0 where
-  pub is_letter : 1 ≤ next
-  pub passed : ArePassed setup entries lost next
+-- the event delivers this letter or one behind it
+abbrev pub delivers_from : ℕ → Event → Bool
+delivers_from letter (event.Invoke client op) = false
+delivers_from letter (event.Deliver number) = nat_le letter number
+delivers_from letter (event.Tick client) = false
+delivers_from letter (event.Inject party text) = false
 
--- a search that has come to this letter has found none, and the next one may begin at `next`
-pub record IsSearched (setup : Setup) (entries : List Entry) (outage : OutageState) (next letter : ℕ) : Type 0 where
-  pub may : MayBeginAt setup entries outage.lost next
+-- events deliver only letters below this one
+abbrev pub DeliverBelow : List Entry → ℕ → Type 0
+DeliverBelow entries next = (letter : ℕ) → next ≤ letter → is_delivered entries letter ≡ false
+
+abbrev pub begin_at : ℕ → ℕ → Begin
+begin_at event letter = record { letter = letter; event = event }
+
+-- a search for a letter that waits may begin here
+pub record MayBeginAt (setup : Setup) (entries : List Entry) (lost : ℕ) (begin : Begin) : Type 0 where
+  pub is_letter : 1 ≤ begin.letter
+  pub passed : ArePassed setup entries lost begin.letter
+  pub within : begin.event ≤ length entries
+  pub below : DeliverBelow (take begin.event entries) begin.letter
+
+-- a search that has come to this letter, over the events from this one on, has found none, and the next one may begin
+-- at `next`
+pub record IsSearched (setup : Setup) (entries : List Entry) (outage : OutageState) (event next letter : ℕ)
+    : Type 0 where
+  pub may : MayBeginAt setup entries outage.lost (begin_at event next)
   pub is_letter : 1 ≤ letter
+  pub behind : next ≤ letter
   pub none : AreLeft setup entries outage letter
 
 -- where the next search may begin, which stays where it is while a letter is only held back

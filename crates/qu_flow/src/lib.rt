@@ -5,4 +5,4 @@ mod outage;
 mod waiting;
 
 pub use outage::Outage;
-pub use waiting::{find_waiting, next_letter};
+pub use waiting::{Begin, find_waiting, next_letter};

@@ -1,5 +1,5 @@
 -- What a replica accepts upon a frame, and why: nothing, or one candidate on each object of an act.
-use Rattle.std.proofs.Common.{◌≡◌, ◌⊎◌, ℕ, Bool, true, false, cond, List, [], ◌∷◌, ◌++◌, map, length, Option, None, Some, inl, inr, refl, sym, subst, ap, ◌∙◌, ltb, ◌≤◌, ltb-false}
+use Rattle.std.proofs.Common.{◌≡◌, ◌⊎◌, ℕ, Bool, true, false, cond, List, [], ◌∷◌, ◌++◌, map, length, Option, None, Some, Result, Ok, Err, inl, inr, refl, sym, subst, ap, ◌∙◌, ltb, ◌≤◌, ltb-false}
 use Rattle.std.specs.Prelude.{find, nat_lt}
 use Rattle.std.specs.List.{AllByRecursion}
 use Rattle.std.proofs.lemmas.Option.{none-some, same_Some}
@@ -23,7 +23,7 @@ use Rattle.qu_rows.specs.declared.decision.Decision.TheVariants.{Waits}
 use Rattle.qu_rows.specs.State.{ReplicaState, own_candidates, own_latest}
 use Rattle.qu_mends.specs.Table.{candidates_in}
 use Rattle.qu_fitting.specs.Holding.{stored_with, accept, accept_all}
-use Rattle.qu_rows.specs.Rows.{Asked, asked_at, refuse, shown_of, decision_on, row_few, decide_repair, mend_asked, wanted_version, row_thin, part_of, parts_of, decision_by, mending_on}
+use Rattle.qu_rows.specs.Rows.{Asked, asked_at, refuse, shown_of, decision_on, row_few, decide_repair, mend_asked, wanted_version, linking_of, missing_of, evidence_for, waits_for, row_evidence, row_thin, part_of, parts_of, decision_by, mending_on}
 use Rattle.qu_mends.specs.Table.{first_given}
 use Rattle.qu_replica.specs.Step.{carried_out, replica_on_frame}
 use Rattle.qu_rows.specs.Allowed.{HasParts, MayAccept, MayAcceptAll}
@@ -34,7 +34,8 @@ use Rattle.qu_mends.specs.declared.mending.Mending.{Mending}
 use Rattle.qu_mends.specs.declared.mending.Mending.TheVariants as mending
 use Rattle.qu_mends.specs.declared.mend.Mend.{Mend}
 use Rattle.qu_mends.specs.declared.remedy.Remedy.TheVariants.{Shown}
-use Rattle.qu_mends.specs.Remedy.{copy_by, remedy_by, remedy_of, whole_group, copied_group, group_of, mended_group, fresh_member, made_group, member_remedy, remedies_by}
+use Rattle.qu_mends.specs.declared.course.Course.{Course}
+use Rattle.qu_mends.specs.Remedy.{whole_group, shown_member, chosen_member, copy_course, course_by, course_of, fresh_member, made_group, remedies_by}
 use Rattle.qu_mends.specs.Causes.{IsPartAdded, ArePartsAdded, HasCause}
 use Rattle.qu_class.specs.Rows.{AreWellFormed, IsGreatestOfKind, AllShown}
 use Rattle.qu_class.proofs.OfKind.{base_is_greatest, held_if_repairable}
@@ -42,13 +43,20 @@ use Rattle.qu_stamp.specs.Group.{is_group}
 use Rattle.qu_grounds.proofs.Formed.{AreGrouped}
 use Rattle.qu_base.specs.Bounds.{quorum}
 use Rattle.qu_class.specs.Class.{class_in}
-use Rattle.qu_class.specs.Plan.{first_apart}
+use Rattle.qu_class.specs.declared.plan.CopyPlan.{CopyPlan}
+use Rattle.qu_class.specs.declared.plan.PlanFail.{PlanFail}
+use Rattle.qu_class.specs.declared.plan.PlanFail.TheVariants as why
+use Rattle.qu_class.specs.Chosen.{chosen_on}
+use Rattle.qu_class.specs.Copying.{plan_of}
+use Rattle.qu_class.specs.Linking.{Linking}
+use Rattle.qu_class.proofs.Chosen.{chosen_sound}
+use Rattle.qu_stamp.specs.declared.stamp.Stamp.{Stamp}
 use Rattle.qu_class.specs.declared.class.Class.{Class}
 use Rattle.qu_class.specs.declared.class.Class.TheVariants as class
 use Rattle.qu_class.proofs.GroupRule.{own_tells}
-use Rattle.qu_mends.proofs.Members.{IsShownWith, group_shown, group_agrees}
+use Rattle.qu_mends.proofs.Members.{IsShownWith, each_course, group_agrees}
 use Rattle.qu_rows.proofs.MendedObjects.{mending_has_cause, enough_in_sets}
-use Rattle.qu_grounds.proofs.Remedies.{inlined, wanted_plain, remedy_is, adds_alone}
+use Rattle.qu_grounds.proofs.Remedies.{inlined, wanted_plain, planned_of, remedy_is, adds_alone}
 use Rattle.qu_grounds.proofs.GroupAcceptance.{no_member, each_member, members_listed, IsJoinedAt, AddsGroup, joined, all_joined, adds_group, group_stamps}
 use Rattle.qu_grounds.proofs.CopyAcceptance.{copies_added}
 use Rattle.qu_claims.specs.Parts.{Names}
@@ -68,14 +76,14 @@ record AddsOne (state : ReplicaState) (asked : Asked) (target : ObjectId) (accep
   current : is_below (latest_of (shown_of asked target)) (own_latest state target) ≡ false
   above : is_below (own_latest state target) candidate.stamp ≡ true
   whole : candidate.group ≡ []
-  remedy : IsRemedy state asked target candidate version
+  remedy : IsRemedy state asked target target candidate version
   alone : accepted ≡ record { object = target; candidate = candidate; state = version } ∷ []
 
 -- on the target alone, or on all objects of a group
 abbrev AddsSome : ReplicaState → Asked → ObjectId → List Accepted → Type 0
 AddsSome state asked target accepted =
     AddsOne state asked target accepted
-    ⊎ ((member : ObjectId × ℕ) × (later : List (ObjectId × ℕ)) × AddsGroup state asked (member ∷ later) accepted)
+    ⊎ ((member : ObjectId × ℕ) × (later : List (ObjectId × ℕ)) × AddsGroup state asked target (member ∷ later) accepted)
 
 abbrev AddsSomeOrNone : ReplicaState → Asked → ObjectId → List Accepted → Type 0
 AddsSomeOrNone state asked target accepted =
@@ -86,7 +94,8 @@ module _ (state : ReplicaState) (asked : Asked) (no_act : asked.act ≡ None)
     (formed : (object : ObjectId) → AreWellFormed state.keys.bounds (shown_of asked object))
     (grouped : (object : ObjectId) → AreGrouped (shown_of asked object))
     (fat : find (λ (set : SetOf). nat_lt (length set.entries) (quorum state.keys.bounds)) asked.sets ≡ None)
-    (target : ObjectId) (enough : quorum state.keys.bounds ≤ length (shown_of asked target)) where
+    (target : ObjectId) (enough : quorum state.keys.bounds ≤ length (shown_of asked target))
+    (ready : missing_of state (evidence_for state asked target) ≡ []) where
   abbrev asked_mend : Mend
   asked_mend = mend_asked state asked target
 
@@ -96,31 +105,34 @@ module _ (state : ReplicaState) (asked : Asked) (no_act : asked.act ≡ None)
   abbrev base_on : ObjectId → Candidate
   base_on object = object_base own_bounds (shown_of asked object)
 
-  -- the object candidate of the target has a group, or stands alone
-  base_grouped : is_group (base_on target).group ≡ true
-  base_grouped =
-      let greatest : IsGreatestOfKind own_bounds (shown_of asked target) false (base_on target) =
-      base_is_greatest own_bounds (shown_of asked target) (formed target) enough in
-      (grouped target (base_on target) (held_if_repairable own_bounds (shown_of asked target) (formed target)
-      (base_on target) (greatest.repairable).order)).whole
+  abbrev own_link : Linking
+  own_link = linking_of state
 
-  abbrev apart : Option ObjectId
-  apart = first_apart own_bounds asked.sets (base_on target)
+  -- what is chosen on the target has a group, or stands alone
+  chosen_grouped : is_group (chosen_on own_bounds asked.sets own_link target).group ≡ true
+  chosen_grouped =
+      (grouped target (chosen_on own_bounds asked.sets own_link target)
+      (held_if_repairable own_bounds (shown_of asked target) (formed target)
+      (chosen_on own_bounds asked.sets own_link target)
+      (chosen_sound own_bounds asked.sets own_link target (formed target) enough).order)).whole
 
-  one_added : (one : Accepted) → mended_group own_bounds asked.sets target ≡ []
+  abbrev course : Course
+  course = course_of own_bounds asked.sets own_link target
+
+  one_added : (one : Accepted) → course.group ≡ []
       → IsPartAdded asked_mend (part_of state asked (target, asked_mend.remedy)) one
       → AddsOne state asked target (one ∷ [])
-  unfolding remedy_of
+  unfolding course_of
   one_added one none added = record {
     candidate = one.candidate;
     version = one.state;
     current = (added.may).current;
     above = (added.may).above;
     whole = adds_alone state asked target no_act (class_in own_bounds asked.sets target)
-        (own_tells own_bounds asked.sets target (formed target) enough) (formed target) (grouped target) apart
+        (own_tells own_bounds asked.sets target (formed target) enough) (formed target) (grouped target)
         (ap (made_group asked.sets) none) none one.candidate added.makes;
-    remedy = remedy_is state asked target no_act (class_in own_bounds asked.sets target) refl
-        (own_tells own_bounds asked.sets target (formed target) enough) base_grouped apart
+    remedy = remedy_is state asked target no_act ready (class_in own_bounds asked.sets target) refl
+        (own_tells own_bounds asked.sets target (formed target) enough) chosen_grouped
         (ap (made_group asked.sets) none) none one.candidate one.state added.makes added.version;
     alone = ap (λ (it : ObjectId). record { object = it; candidate = one.candidate; state = one.state } ∷ [])
         added.object;
@@ -133,7 +145,7 @@ module _ (state : ReplicaState) (asked : Asked) (no_act : asked.act ≡ None)
   joined_at : (group : List (ObjectId × ℕ)) (object : ObjectId) (one : Accepted)
       → quorum own_bounds ≤ length (shown_of asked object) → IsShownWith own_bounds asked.sets group object
       → IsPartAdded asked_mend (part_of state asked (object, Shown (base_on object))) one
-      → IsJoinedAt state asked group base_on no_version object
+      → IsJoinedAt state asked target group base_on no_version object
   joined_at group object one shown agrees added =
       let greatest : IsGreatestOfKind own_bounds (shown_of asked object) false (base_on object) =
       base_is_greatest own_bounds (shown_of asked object) (formed object) shown in
@@ -151,18 +163,18 @@ module _ (state : ReplicaState) (asked : Asked) (no_act : asked.act ≡ None)
       }
 
   -- each member is joined
-  all_joined_at : (shown : Candidate) (group members : List (ObjectId × ℕ)) (accepted : List Accepted)
+  all_joined_at : (group members : List (ObjectId × ℕ)) (accepted : List Accepted)
       → AllShown asked.sets members
       → AllByRecursion (λ member. IsShownWith own_bounds asked.sets group member.0) members
       → ArePartsAdded asked_mend
-      (map (part_of state asked) (map (member_remedy own_bounds asked.sets (Shown shown)) members)) accepted
+      (map (part_of state asked) (map (shown_member own_bounds asked.sets) members)) accepted
       → (accepted ≡ all_joined base_on no_version members)
-      × AllByRecursion (λ member. IsJoinedAt state asked group base_on no_version member.0) members
-  all_joined_at shown group [] [] in_sets agree added = (refl, tt)
-  all_joined_at shown group [] (one ∷ more) in_sets agree added = absurd added
-  all_joined_at shown group (member ∷ later) [] in_sets agree added = absurd added
-  all_joined_at shown group (member ∷ later) (one ∷ more) in_sets agree added =
-      let rest = all_joined_at shown group later more in_sets.1 agree.1 added.1 in
+      × AllByRecursion (λ member. IsJoinedAt state asked target group base_on no_version member.0) members
+  all_joined_at group [] [] in_sets agree added = (refl, tt)
+  all_joined_at group [] (one ∷ more) in_sets agree added = absurd added
+  all_joined_at group (member ∷ later) [] in_sets agree added = absurd added
+  all_joined_at group (member ∷ later) (one ∷ more) in_sets agree added =
+      let rest = all_joined_at group later more in_sets.1 agree.1 added.1 in
       let object : one.object ≡ member.0 = (added.0).object in
       let candidate : one.candidate ≡ base_on member.0 = ((added.0).makes).0 in
       let stored : one.state ≡ None = ((added.0).version).1 in
@@ -179,21 +191,22 @@ module _ (state : ReplicaState) (asked : Asked) (no_act : asked.act ≡ None)
 
   abbrev AddsSomeGroup : List Accepted → Type 0
   AddsSomeGroup accepted =
-      (member : ObjectId × ℕ) × (later : List (ObjectId × ℕ)) × AddsGroup state asked (member ∷ later) accepted
+      (member : ObjectId × ℕ) × (later : List (ObjectId × ℕ)) × AddsGroup state asked target (member ∷ later) accepted
 
   -- the candidates of a group are added as they are
   inline_group : (shown : Candidate) (member : ObjectId × ℕ) (later : List (ObjectId × ℕ))
       → class_in own_bounds asked.sets target ≡ class.InlineMethod shown
       → whole_group shown.group ≡ member ∷ later → AllShown asked.sets (member ∷ later) → (accepted : List Accepted)
       → ArePartsAdded asked_mend
-      (map (part_of state asked) (map (member_remedy own_bounds asked.sets (Shown shown)) (member ∷ later))) accepted
+      (map (part_of state asked) (map (shown_member own_bounds asked.sets) (member ∷ later))) accepted
       → AddsSomeGroup accepted
   inline_group shown member later is whole in_sets accepted added =
       let group : List (ObjectId × ℕ) = member ∷ later in
-      let both = all_joined_at shown group group accepted in_sets
+      let both = all_joined_at group group accepted in_sets
       (group_agrees own_bounds asked.sets target shown member later is whole) added in
-      let each : (object : ObjectId) → Names group object → IsJoinedAt state asked group base_on no_version object =
-      each_member (IsJoinedAt state asked group base_on no_version) group both.1 in (
+      let each : (object : ObjectId) → Names group object
+      → IsJoinedAt state asked target group base_on no_version object =
+      each_member (IsJoinedAt state asked target group base_on no_version) group both.1 in (
         member,
         later,
         record {
@@ -207,41 +220,55 @@ module _ (state : ReplicaState) (asked : Asked) (no_act : asked.act ≡ None)
         },
       )
 
+  whole_is : (group : List (ObjectId × ℕ)) (test : Bool) (member : ObjectId × ℕ) (later : List (ObjectId × ℕ))
+      → is_group group ≡ test → cond test group [] ≡ member ∷ later
+      → (is_group group ≡ true) × (group ≡ member ∷ later)
+  whole_is group true member later is given = (is, given)
+  whole_is group false member later is given = absurd (no_member member later given)
+
   -- or copied
-  copied_group_added : (found : Option ObjectId) → apart ≡ found → (member : ObjectId × ℕ)
-      (later : List (ObjectId × ℕ))
-      → asked_mend.made ≡ made_group asked.sets (member ∷ later)
-      → copied_group (base_on target).group (copy_by (base_on target).stamp found) ≡ member ∷ later
+  copied_group_added : class_in own_bounds asked.sets target ≡ class.Copy → (plan : Result CopyPlan PlanFail)
+      → plan_of own_bounds asked.sets own_link target ≡ plan → (member : ObjectId × ℕ) (later : List (ObjectId × ℕ))
+      → asked_mend.made ≡ made_group asked.sets (member ∷ later) → (copy_course target plan).group ≡ member ∷ later
       → (accepted : List Accepted)
-      → ArePartsAdded asked_mend
-      (map (part_of state asked)
-      (map (member_remedy own_bounds asked.sets (copy_by (base_on target).stamp found)) (member ∷ later))) accepted
+      → ArePartsAdded asked_mend (map (part_of state asked) (copy_course target plan).members) accepted
       → AddsSomeGroup accepted
-  copied_group_added None none member later made group accepted added =
-      let whole : (base_on target).group ≡ member ∷ later =
-      sym (ap (λ (test : Bool). cond test (base_on target).group []) base_grouped) ∙ group in (
+  unfolding copy_course
+  copied_group_added copy (Ok plan) is member later made group accepted added =
+      let members : List (ObjectId × ℕ) = map chosen_member plan.joint in
+      let whole = whole_is members (is_group members) member later refl group in (
         fresh_member asked.sets member,
         map (fresh_member asked.sets) later,
-        copies_added state asked target no_act formed None none refl (member ∷ later)
-            (subst (λ (it : List (ObjectId × ℕ)). is_group it ≡ true) whole base_grouped) (sym whole) made accepted added,
+        subst (λ (it : List (ObjectId × ℕ)). AddsGroup state asked target (map (fresh_member asked.sets) it) accepted)
+            whole.1
+            (copies_added state asked target no_act formed plan (planned_of state asked target ready plan copy is) whole.0
+            (made ∙ ap (made_group asked.sets) (sym whole.1)) accepted added),
       )
-  copied_group_added (Some other) is member later made none accepted added = absurd (no_member member later none)
+  copied_group_added copy (Err (why.Stale other)) is member later made none accepted added =
+      absurd (no_member member later none)
+  copied_group_added copy (Err (why.Needs other)) is member later made none accepted added =
+      absurd (no_member member later none)
+  copied_group_added copy (Err why.NoMemory) is member later made none accepted added =
+      absurd (no_member member later none)
+
+  abbrev course_by_class : Class → Course
+  course_by_class class = course_by own_bounds asked.sets target (plan_of own_bounds asked.sets own_link target) class
 
   by_class : (class : Class) → class_in own_bounds asked.sets target ≡ class → (member : ObjectId × ℕ)
       (later : List (ObjectId × ℕ)) → asked_mend.made ≡ made_group asked.sets (member ∷ later)
-      → AllShown asked.sets (member ∷ later)
-      → group_of (base_on target) class (remedy_by apart (base_on target) class) ≡ member ∷ later
+      → AllShown asked.sets (member ∷ later) → (course_by_class class).group ≡ member ∷ later
       → (accepted : List Accepted)
-      → ArePartsAdded asked_mend
-      (map (part_of state asked)
-      (map (member_remedy own_bounds asked.sets (remedy_by apart (base_on target) class)) (member ∷ later))) accepted
+      → ArePartsAdded asked_mend (map (part_of state asked) (course_by_class class).members) accepted
       → AddsSomeGroup accepted
-  unfolding remedy_by
+  unfolding course_by
   by_class (class.Method base) is member later made shown none accepted added = absurd (no_member member later none)
   by_class (class.InlineMethod base) is member later made shown group accepted added =
-      inline_group base member later is group shown accepted added
+      let whole = whole_is base.group (is_group base.group) member later refl group in
+      inline_group base member later is group shown accepted
+      (subst (λ (it : List (ObjectId × ℕ)). ArePartsAdded asked_mend
+      (map (part_of state asked) (map (shown_member own_bounds asked.sets) it)) accepted) whole.1 added)
   by_class class.Copy is member later made shown group accepted added =
-      copied_group_added apart refl member later made group accepted added
+      copied_group_added is (plan_of own_bounds asked.sets own_link target) refl member later made group accepted added
   by_class (class.InlineBarrier base) is member later made shown none accepted added =
       absurd (no_member member later none)
   by_class (class.Barrier prior) is member later made shown none accepted added =
@@ -249,22 +276,20 @@ module _ (state : ReplicaState) (asked : Asked) (no_act : asked.act ≡ None)
   by_class (class.Needs object) is member later made shown none accepted added =
       absurd (no_member member later none)
 
-  by_group : (group : List (ObjectId × ℕ)) → mended_group own_bounds asked.sets target ≡ group
-      → (accepted : List Accepted)
-      → ArePartsAdded asked_mend
-      (map (part_of state asked) (remedies_by own_bounds asked.sets target asked_mend.remedy group)) accepted
+  by_group : (group : List (ObjectId × ℕ)) → course.group ≡ group → (accepted : List Accepted)
+      → ArePartsAdded asked_mend (map (part_of state asked) (remedies_by target course group)) accepted
       → AddsSome state asked target accepted
-  unfolding remedies_by remedy_of
+  unfolding remedies_by course_of
   by_group [] is [] added = absurd added
   by_group [] is (one ∷ []) added = inl (one_added one is added.0)
   by_group [] is (one ∷ second ∷ more) added = absurd added.1
   by_group (member ∷ later) is accepted added =
       inr (by_class (class_in own_bounds asked.sets target) refl member later (ap (made_group asked.sets) is)
-      (subst (AllShown asked.sets) is (group_shown own_bounds asked.sets target)) is accepted added)
+      (subst (AllShown asked.sets) is (each_course own_bounds asked.sets own_link target).shown) is accepted added)
 
   mended : (made : Mending) → HasCause asked_mend (parts_of state asked target) made
       → AddsSomeOrNone state asked target (accepted_in (decision_by target made))
-  mended (mending.Mends stamp accepted) cause = inr (enough, by_group asked_mend.group refl accepted cause.1)
+  mended (mending.Mends stamp accepted) cause = inr (enough, by_group course.group refl accepted cause.1)
   mended (mending.Holds stamp) cause = inl refl
   mended (mending.Refuses why) cause = inl refl
   mended (mending.Waits missing) cause = inl refl
@@ -277,6 +302,25 @@ few state asked target =
     refused_if : (test : Bool) (why : Refusal) → AcceptsNothing (cond test (Some (refuse why)) None)
     refused_if false why decision given = absurd (none-some decision given)
     refused_if true why decision given = ap accepted_in (sym (same_Some (refuse why) decision given))
+
+-- what waits accepts nothing
+waits_for_some : (missing : List (ObjectId × Stamp)) → AcceptsNothing (waits_for missing)
+waits_for_some [] decision given = absurd (none-some decision given)
+waits_for_some (key ∷ more) decision given = ap accepted_in (sym (same_Some (Waits (key ∷ more)) decision given))
+
+evidence : (state : ReplicaState) (asked : Asked) (target : ObjectId)
+    → AcceptsNothing (row_evidence state asked target)
+unfolding row_evidence
+evidence state asked target = waits_for_some (missing_of state (evidence_for state asked target))
+
+none_awaited : (missing : List (ObjectId × Stamp)) → waits_for missing ≡ None → missing ≡ []
+none_awaited [] none = refl
+none_awaited (key ∷ more) none = absurd (none-some (Waits (key ∷ more)) (sym none))
+
+all_known : (state : ReplicaState) (asked : Asked) (target : ObjectId) → row_evidence state asked target ≡ None
+    → missing_of state (evidence_for state asked target) ≡ []
+unfolding row_evidence
+all_known state asked target none = none_awaited (missing_of state (evidence_for state asked target)) none
 
 not_few : (state : ReplicaState) (asked : Asked) (target : ObjectId) → row_few state asked target ≡ None
     → quorum state.keys.bounds ≤ length (shown_of asked target)
@@ -309,9 +353,10 @@ repair_accepts state asked target no_act formed grouped =
     past most _ _ (inl refl) (unknown state asked) (λ _.
     past most _ _ (inl refl) (thin state asked) (λ fat.
     past most _ _ (inl refl) (few state asked target) (λ enough.
+    past most _ _ (inl refl) (evidence state asked target) (λ ready.
     at_last most (decision_by target (mending_on state asked target))
-    (mended state asked no_act formed grouped (not_thin state asked fat) target (not_few state asked target enough)
-    (mending_on state asked target) (mending_has_cause state asked target)))))
+    (mended state asked no_act formed grouped (not_thin state asked fat) target (not_few state asked target enough) (all_known state asked target ready)
+    (mending_on state asked target) (mending_has_cause state asked target))))))
 
 adds : (state new : ReplicaState) (client : ClientId) (number round : ℕ) (sent : List SetOf) (mac : List ℕ)
     (target : ObjectId) (accepted : List Accepted) → MayAcceptAll state accepted
@@ -358,7 +403,7 @@ adds state new client number round sent mac target accepted may enough made is_n
         listed = λ object other never besides. absurd never;
         versions = λ object. made.version;
         remedy = λ object is. subst
-            (λ (it : ObjectId). IsRemedy state (asked_at state client number sent (body.Mend target)) it
+            (λ (it : ObjectId). IsRemedy state (asked_at state client number sent (body.Mend target)) target it
             made.candidate made.version) is made.remedy;
         stored = is_one.versions
             ∙ ap (λ (it : List Stored). state.versions ++ it) (sym (append-nil (stored_with one)));

@@ -1,6 +1,6 @@
 -- Where a candidate with grounds stands: above all that its replica holds, and upon a base that the replica
 -- has nothing above.
-use Rattle.std.proofs.Common.{◌≡◌, ◌≤◌, ℕ, Bool, true, false, ◌&&◌, List, Option, None, Some, refl, sym, subst, ap, ◌∙◌, inl, inr, unwrap_or, is_some, ◌⊎◌}
+use Rattle.std.proofs.Common.{◌≡◌, ◌≤◌, ℕ, Bool, true, false, ◌&&◌, List, Option, None, Some, Result, refl, sym, subst, ap, ◌∙◌, inl, inr, unwrap_or, is_some, ◌⊎◌}
 use Rattle.std.specs.Prelude.{nat_le}
 use Rattle.std.proofs.lemmas.Bool.{false≢true, cases_Bool, and_parts, leb-true}
 use Rattle.std.proofs.lemmas.Option.{none-some, cond_some}
@@ -13,10 +13,13 @@ use Rattle.qu_stamp.proofs.Order.{is_below-self, is_below-not_chain, equal_by_sa
 use Rattle.qu_history.specs.History.{ObjectHistory, holds}
 use Rattle.qu_history.specs.Sets.{entries_of, order_of, latest_of, object_candidate, if_method, method_at}
 use Rattle.qu_history.proofs.Stamps.{not_below_latest}
-use Rattle.qu_rows.specs.Rows.{Asked, fresh_stamp, asked_of, act_asked, objects_of}
+use Rattle.qu_rows.specs.Rows.{Asked, fresh_stamp, asked_of, act_asked, objects_of, linking_of}
 use Rattle.qu_class.specs.Repairable.{object_base}
 use Rattle.qu_rows.specs.State.{ReplicaState, own_candidates, own_latest}
-use Rattle.qu_claims.specs.Grounds.{IsGround, Reasons, AddsTo, IsMade, made_on, IsMadeFrom, IsFound, made_stamp, Performs, IsRemedy}
+use Rattle.qu_class.specs.declared.plan.CopyPlan.{CopyPlan}
+use Rattle.qu_class.specs.declared.plan.PlanFail.{PlanFail}
+use Rattle.qu_class.specs.Chosen.{chosen_on}
+use Rattle.qu_claims.specs.Grounds.{IsGround, Reasons, AddsTo, IsMade, planned_on, made_on, made_upon, IsMadeFrom, IsFound, made_stamp, Performs, IsRemedy}
 use Rattle.qu_rows.proofs.Allowed.{fresh_later}
 use Rattle.qu_frames.specs.declared.frame.Body.{Body}
 use Rattle.qu_base.specs.declared.party.ClientId.{ClientId}
@@ -140,7 +143,7 @@ module _ (old new : ReplicaState) (asked : Asked) (group : List (ObjectId × ℕ
 
     -- the replica made it, with what it made on the other objects, or was shown it
     pub made_or_found : (asks : Body) → Reasons old new asked asks group candidates → (object : ObjectId)
-        → AddsTo asks group object → IsMadeFrom old.keys.bounds asked asks object (candidates object)
+        → AddsTo asks group object → IsMadeFrom old.keys.bounds (linking_of old) asked asks object (candidates object)
         ⊎ IsFound old.keys.bounds asked object (candidates object)
     made_or_found (body.Act parts) reasons object names =
         let grounds : IsGround old asked (objects_of parts) object (candidates object) (reasons.bases object) =
@@ -159,23 +162,25 @@ module _ (old new : ReplicaState) (asked : Asked) (group : List (ObjectId × ℕ
         by_remedy (candidates object) (reasons.versions object) (reasons.remedy object mended)
       where
         made_so : (candidate : Candidate) (barrier : Bool) → candidate.stamp.barrier ≡ barrier
-            → IsMade old.keys.bounds asked (made_on old.keys.bounds asked (body.Mend target) object barrier) object
-            candidate
-            → IsMadeFrom old.keys.bounds asked (body.Mend target) object candidate
+            → IsMade asked (made_upon old.keys.bounds (linking_of old) asked (body.Mend target) object barrier)
+            (made_on old.keys.bounds (linking_of old) asked (body.Mend target) object barrier) object candidate
+            → IsMadeFrom old.keys.bounds (linking_of old) asked (body.Mend target) object candidate
         made_so candidate barrier is made =
-            subst (λ (it : Bool). IsMade old.keys.bounds asked
-            (made_on old.keys.bounds asked (body.Mend target) object it) object candidate) (sym is) made
+            subst (λ (it : Bool). IsMade asked (made_upon old.keys.bounds (linking_of old) asked (body.Mend target) object it)
+            (made_on old.keys.bounds (linking_of old) asked (body.Mend target) object it) object candidate) (sym is) made
 
         by_remedy : (candidate : Candidate) (version : Option ObjState)
-            → IsRemedy old asked object candidate version
-            → IsMadeFrom old.keys.bounds asked (body.Mend target) object candidate
+            → IsRemedy old asked target object candidate version
+            → IsMadeFrom old.keys.bounds (linking_of old) asked (body.Mend target) object candidate
             ⊎ IsFound old.keys.bounds asked object candidate
         by_remedy candidate version (IsRemedy.inline_barrier barrier found) = inr found
         by_remedy candidate version (IsRemedy.inline_method state plain found stored) = inr found
         by_remedy candidate version (IsRemedy.barrier barrier made) = inl (made_so candidate true barrier made)
-        by_remedy candidate version
-            (IsRemedy.copy latest state plain made together barrier is_latest full stored) =
-            inl (made_so candidate false plain made)
+        by_remedy candidate version (IsRemedy.copy latest plan before plain planned names made barrier is_latest full stored) =
+            inl (made_so candidate false plain
+            (subst (λ (it : Result CopyPlan PlanFail). IsMade asked
+            (chosen_on old.keys.bounds asked.sets (linking_of old) object) (planned_on it) object candidate)
+            (sym planned.is) made))
 
 -- what has an act's digest was made for an act
 pub record IsOfAct (old new : ReplicaState) (asked : Asked) (asks : Body) (candidates : ObjectId → Candidate)

@@ -38,8 +38,8 @@ use Rattle.qu_grounds.proofs.ActAcceptance.{own_after, candidates_after}
 use Rattle.qu_grounds.proofs.Together.{time_in, time_is, member_is}
 
 -- what holds of each member holds of each object that they name
-pub each_member : (P : ObjectId → Type 0) (group : List (ObjectId × ℕ)) → AllByRecursion (λ member. P member.0) group
-    → (object : ObjectId) → Names group object → P object
+pub each_member : {X : Type 0} (P : ObjectId → Type 0) (group : List (ObjectId × X))
+    → AllByRecursion (λ member. P member.0) group → (object : ObjectId) → Names group object → P object
 each_member P [] all object names = absurd names
 each_member P (member ∷ later) all object (inl same) = subst P same all.0
 each_member P (member ∷ later) all object (inr named) = each_member P later all.1 object named
@@ -89,23 +89,23 @@ module _ (candidates : ObjectId → Candidate) (versions : ObjectId → Option O
 pub no_member : {X : Type 0} (item : X) (items : List X) → [] ≡ item ∷ items → ⊥
 no_member item items same = omega (arith, ap length same)
 
-module _ (state : ReplicaState) (asked : Asked) (group : List (ObjectId × ℕ)) (candidates : ObjectId → Candidate)
-    (versions : ObjectId → Option ObjState) where
+module _ (state : ReplicaState) (asked : Asked) (target : ObjectId) (group : List (ObjectId × ℕ))
+    (candidates : ObjectId → Candidate) (versions : ObjectId → Option ObjState) where
   -- on an object
   pub record IsJoinedAt (object : ObjectId) : Type 0 where
     pub enough : quorum state.keys.bounds ≤ length (shown_of asked object)
     pub current : is_below (latest_of (shown_of asked object)) (own_latest state object) ≡ false
     pub above : is_below (own_latest state object) (candidates object).stamp ≡ true
     pub whole : (candidates object).group ≡ group
-    pub remedy : IsRemedy state asked object (candidates object) (versions object)
+    pub remedy : IsRemedy state asked target object (candidates object) (versions object)
 
 -- and on all of the group, which lists the stamp of each
-pub record AddsGroup (state : ReplicaState) (asked : Asked) (group : List (ObjectId × ℕ)) (accepted : List Accepted)
-    : Type 0 where
+pub record AddsGroup (state : ReplicaState) (asked : Asked) (target : ObjectId) (group : List (ObjectId × ℕ))
+    (accepted : List Accepted) : Type 0 where
   pub candidates : ObjectId → Candidate
   pub versions : ObjectId → Option ObjState
   pub all : accepted ≡ all_joined candidates versions group
-  pub each : (object : ObjectId) → Names group object → IsJoinedAt state asked group candidates versions object
+  pub each : (object : ObjectId) → Names group object → IsJoinedAt state asked target group candidates versions object
   pub listed : (object other : ObjectId) → Names group object → Names group other
       → member_on (candidates object) other ≡ Some (candidates other).stamp
 
@@ -197,7 +197,7 @@ module _ (state new : ReplicaState) (client : ClientId) (number round : ℕ) (se
   asked = asked_at state client number sent (body.Mend target)
 
   pub adds_group : (member : ObjectId × ℕ) (later : List (ObjectId × ℕ))
-      → AddsGroup state asked (member ∷ later) accepted
+      → AddsGroup state asked target (member ∷ later) accepted
       → Accepts state new (frame.Request client number round sent (body.Mend target) mac)
   adds_group member later made =
       let group : List (ObjectId × ℕ) = member ∷ later in

@@ -4,6 +4,7 @@ pub mod Grounds
 pub mod Together
 pub mod ActAcceptance
 pub mod GroupAcceptance
+pub mod Planned
 pub mod Remedies
 pub mod CopyAcceptance
 pub mod Acceptance

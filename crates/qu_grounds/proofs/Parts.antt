@@ -47,23 +47,11 @@ abbrev pub Lists : List ObjectId → ObjectId → Type 0
 Lists [] object = ⊥
 Lists (first ∷ later) object = (first ≡ object) ⊎ Lists later object
 
-listed_named : {X : Type 0} (parts : List (ObjectId × X)) (object : ObjectId) → Lists (objects_of parts) object
-    → Names parts object
-listed_named [] object never = never
-listed_named (part ∷ later) object (inl same) = inl same
-listed_named (part ∷ later) object (inr there) = inr (listed_named later object there)
-
 named_listed : {X : Type 0} (parts : List (ObjectId × X)) (object : ObjectId) → Names parts object
     → Lists (objects_of parts) object
 named_listed [] object never = never
 named_listed (part ∷ later) object (inl same) = inl same
 named_listed (part ∷ later) object (inr there) = inr (named_listed later object there)
-
-pub listed_mended : (target : ObjectId) (group : List (ObjectId × ℕ)) (object : ObjectId)
-    → Lists (mended_objects target group) object → MendsOn target group object
-listed_mended target [] object (inl same) = same
-listed_mended target [] object (inr never) = absurd never
-listed_mended target (member ∷ later) object listed = listed_named (member ∷ later) object listed
 
 pub mended_listed : (target : ObjectId) (group : List (ObjectId × ℕ)) (object : ObjectId)
     → MendsOn target group object → Lists (mended_objects target group) object

@@ -14,10 +14,9 @@ use Rattle.qu_rows.specs.State.{ReplicaState}
 use Rattle.qu_fitting.specs.Holding.{stored_if}
 use Rattle.qu_versions.specs.Versions.{is_stored, version_at}
 use Rattle.qu_claims.specs.Parts.{Names}
-use Rattle.qu_claims.specs.Grounds.{stored_of, Performs, Reasons, AddsTo, MendsOn, mended_objects, stored_mended, IsRemedy}
+use Rattle.qu_claims.specs.Grounds.{stored_of, Performs, MendsOn, mended_objects, stored_mended}
 use Rattle.qu_rows.specs.Rows.{Asked}
-use Rattle.qu_grounds.proofs.Parts.{Lists, listed_mended, mended_listed}
-use Rattle.qu_frames.specs.declared.frame.Body.{Body}
+use Rattle.qu_grounds.proofs.Parts.{Lists, mended_listed}
 use Rattle.qu_frames.specs.declared.frame.Body.TheVariants as body
 
 -- what is found with more versions was found before, or is among these
@@ -64,10 +63,6 @@ module _ (candidates : ObjectId → Candidate) (versions : ObjectId → ObjState
   abbrev stored : List (ObjectId × Method) → List Stored
   stored parts = stored_of candidates versions parts
 
-  -- the part is on the object whose version is found
-  abbrev IsAmong : List (ObjectId × Method) → ObjectId → Stamp → Type 0
-  IsAmong parts object stamp = Names parts object × ((candidates object).stamp ≡ stamp)
-
   same_object : (part : ObjectId × Method) (object : ObjectId) (stamp : Stamp)
       → is_stored object stamp (record {
         object = part.0;
@@ -79,27 +74,6 @@ module _ (candidates : ObjectId → Candidate) (versions : ObjectId → ObjState
       and_parts _ _ found in
       let numbered : ℕ → ObjectId = λ it. record { 0 = it } in
       (ap numbered (eqb-true _ _ tests.0), equal_by_same_stamp (candidates part.0).stamp stamp tests.1)
-
-  -- a version that is found among those of the parts is that of one of their candidates
-  pub among_stored : (parts : List (ObjectId × Method)) (object : ObjectId) (stamp : Stamp) (version : ObjState)
-      → version_at object stamp (stored parts) ≡ Some version → IsAmong parts object stamp
-  unfolding version_at
-  among_stored [] object stamp version found = absurd (none-some version found)
-  among_stored (part ∷ later) object stamp version found =
-      let head : Stored = record { object = part.0; stamp = (candidates part.0).stamp; state = versions part.0 } in
-      elim (cases_Bool (is_stored object stamp head)) [
-        | inl here ↦
-            let same = same_object part object stamp here in (
-              inl same.0,
-              subst (λ (it : ObjectId). (candidates it).stamp ≡ stamp) same.0 same.1,
-            )
-        | inr there ↦
-            let inner : IsAmong later object stamp =
-            among_stored later object stamp version
-            (ap (λ (test : Bool). cond test (Some (versions part.0)) (version_at object stamp (stored later)))
-            (sym there) ∙ found) in
-            (inr inner.0, inner.1)
-      ]
 
   head_stored : (part : ObjectId × Method) (later : List (ObjectId × Method))
       → version_at part.0 (candidates part.0).stamp (stored (part ∷ later)) ≡ Some (versions part.0)
@@ -139,69 +113,9 @@ version_of_performed old new asked parts candidates performs object names none =
     ∙ version_at-later object (candidates object).stamp old.versions _ none
     ∙ named_stored candidates performs.versions parts object names
 
--- ---- what is stored anew
-
--- a version that is found among those that are stored is of what is added
-among_mended : (target object : ObjectId) (stamp under : Stamp) (stored : Option ObjState) (version : ObjState)
-    → version_at object under (stored_if target stamp stored) ≡ Some version → (target ≡ object) × (stamp ≡ under)
-unfolding version_at
-among_mended target object stamp under None version found = absurd (none-some version found)
-among_mended target object stamp under (Some state) version found =
-    elim (cases_Bool (is_stored object under (record { object = target; stamp = stamp; state = state }))) [
-      | inl here ↦
-          let tests : ((target.0 == object.0) ≡ true) × (same_stamp stamp under ≡ true) = and_parts _ _ here in
-          let numbered : ℕ → ObjectId = λ it. record { 0 = it } in
-          (ap numbered (eqb-true _ _ tests.0), equal_by_same_stamp stamp under tests.1)
-      | inr there ↦
-          absurd (none-some version
-          (sym (ap (λ (test : Bool). cond test (Some state) None) there) ∙ found))
-    ]
-
--- a version comes with a remedy to a candidate without barrier alone
-remedy_plain : (state : ReplicaState) (asked : Asked) (target : ObjectId) (candidate : Candidate)
-    (stored : Option ObjState) → IsRemedy state asked target candidate stored → (object : ObjectId) (under : Stamp)
-    (version : ObjState) → version_at object under (stored_if target candidate.stamp stored) ≡ Some version
-    → candidate.stamp.barrier ≡ false
-unfolding version_at
-remedy_plain state asked target candidate stored (IsRemedy.inline_barrier barrier is_found) object under version found =
-    absurd (none-some version found)
-remedy_plain state asked target candidate stored (IsRemedy.inline_method its plain is_found is) object under version
-    found = plain
-remedy_plain state asked target candidate stored (IsRemedy.barrier barrier made) object under version found =
-    absurd (none-some version found)
-remedy_plain state asked target candidate stored
-    (IsRemedy.copy latest its plain made together barrier is_latest full is) object under version found = plain
-
--- of those that are mended it is one
+-- of those that are mended
 module _ (candidates : ObjectId → Candidate) (versions : ObjectId → Option ObjState) where
-  record IsOfMended (objects : List ObjectId) (object : ObjectId) (stamp : Stamp) (version : ObjState) : Type 0 where
-    among : Lists objects object
-    under : (candidates object).stamp ≡ stamp
-    found : version_at object stamp (stored_if object (candidates object).stamp (versions object)) ≡ Some version
-
-  of_mended : (objects : List ObjectId) (object : ObjectId) (stamp : Stamp) (version : ObjState)
-      → version_at object stamp (stored_mended candidates versions objects) ≡ Some version
-      → IsOfMended objects object stamp version
-  unfolding version_at
-  of_mended [] object stamp version found = absurd (none-some version found)
-  of_mended (mended ∷ later) object stamp version found =
-      elim (stored_cases object stamp (stored_if mended (candidates mended).stamp (versions mended)) _ version found) [
-        | inl here ↦
-            let both : (mended ≡ object) × ((candidates mended).stamp ≡ stamp) =
-            among_mended mended object (candidates mended).stamp stamp (versions mended) version here in
-            record {
-              among = inl both.0;
-              under = ap (λ (it : ObjectId). (candidates it).stamp) (sym both.0) ∙ both.1;
-              found = subst (λ (it : ObjectId).
-                  version_at object stamp (stored_if it (candidates it).stamp (versions it)) ≡ Some version) both.0
-                  here;
-            }
-        | inr there ↦
-            let rest : IsOfMended later object stamp version = of_mended later object stamp version there in
-            record { among = inr rest.among; under = rest.under; found = rest.found }
-      ]
-
-  -- and the version of each is found
+  -- the version of each is found
   head_found : (mended : ObjectId) (found : Option ObjState) (rest : List Stored) (version : ObjState)
       → found ≡ Some version
       → version_at mended (candidates mended).stamp (stored_if mended (candidates mended).stamp found ++ rest)
@@ -256,46 +170,3 @@ version_of_mended old new candidates versions target group object version stored
     ∙ version_at-later object (candidates object).stamp old.versions _ none
     ∙ mended_stored candidates versions (mended_objects target group) object version
     (mended_listed target group object mends) has
-
--- a candidate without barrier, with this stamp, that a request adds to the object
-pub record IsAddedUnder (asks : Body) (group : List (ObjectId × ℕ)) (candidates : ObjectId → Candidate)
-    (object : ObjectId) (stamp : Stamp) : Type 0 where
-  pub adds : AddsTo asks group object
-  pub under : (candidates object).stamp ≡ stamp
-  pub plain : (candidates object).stamp.barrier ≡ false
-
--- what a replica finds after a request it found before, or it is of what the request adds
-pub stored_before : (old new : ReplicaState) (asked : Asked) (asks : Body) (group : List (ObjectId × ℕ))
-    (candidates : ObjectId → Candidate) → Reasons old new asked asks group candidates → (object : ObjectId)
-    (stamp : Stamp) (version : ObjState) → version_at object stamp new.versions ≡ Some version
-    → (version_at object stamp old.versions ≡ Some version) ⊎ IsAddedUnder asks group candidates object stamp
-unfolding version_at
-stored_before old new asked (body.Act parts) group candidates reasons object stamp version found =
-    elim (stored_cases object stamp old.versions _ version
-    (ap (version_at object stamp) (sym reasons.stored) ∙ found)) [
-      | inl before ↦ inl before
-      | inr newest ↦
-          let both : Names parts object × ((candidates object).stamp ≡ stamp) =
-          among_stored candidates reasons.versions parts object stamp version newest in
-          inr (record {
-            adds = both.0;
-            under = both.1;
-            plain = ap (λ (it : Stamp). it.barrier) (reasons.grounds object both.0).stamp;
-          })
-    ]
-stored_before old new asked (body.Ask parts) group candidates reasons object stamp version found = absurd reasons
-stored_before old new asked (body.Mend target) group candidates reasons object stamp version found =
-    elim (stored_cases object stamp old.versions _ version
-    (ap (version_at object stamp) (sym reasons.stored) ∙ found)) [
-      | inl before ↦ inl before
-      | inr newest ↦
-          let it : IsOfMended candidates reasons.versions (mended_objects target group) object stamp version =
-          of_mended candidates reasons.versions (mended_objects target group) object stamp version newest in
-          let adds : MendsOn target group object = listed_mended target group object it.among in
-          inr (record {
-            adds = adds;
-            under = it.under;
-            plain = remedy_plain old asked object (candidates object) (reasons.versions object)
-                (reasons.remedy object adds) object stamp version it.found;
-          })
-    ]

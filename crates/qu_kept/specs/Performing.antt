@@ -1,10 +1,11 @@
 -- What an act makes of the versions of its objects. Each of them has the object's value after the act, the
 -- client's row replaced, and a link under its own stamp to each other object of the act. An act that is refused
--- changes no value, but the row and the links are written all the same.
+-- changes no value, but the row and the links are written all the same. A copy changes links alone.
 use Rattle.std.specs.Prelude.{ℕ, ◌==◌, not, List, [], ◌∷◌, filter, map, zip}
 use Rattle.qu_base.specs.declared.party.ClientId.{ClientId}
 use Rattle.qu_base.specs.declared.party.ObjectId.{ObjectId}
 use Rattle.qu_stamp.specs.declared.stamp.Stamp.{Stamp}
+use Rattle.qu_stamp.specs.declared.candidate.Candidate.{Candidate}
 use Rattle.qu_objects.specs.declared.act.Method.{Method}
 use Rattle.qu_objects.specs.declared.kind.Value.{Value}
 use Rattle.qu_objects.specs.declared.state.KeptRow.{KeptRow}
@@ -33,8 +34,8 @@ row_for client number parts states = row_by client number parts (values_of state
 abbrev pub linked_object : Link → ℕ
 linked_object link = (link.object).0
 
--- the links of an object to the others of an act, under its own stamp
-abbrev pub links_to_others : ObjectId → Stamp → List (ObjectId × Method) → List Link
+-- the links of an object to the others of an act or of a group, under its own stamp
+abbrev pub links_to_others : {X : Type 0} → ObjectId → Stamp → List (ObjectId × X) → List Link
 links_to_others object stamp parts =
     map (λ part. record { object = part.0; stamp = stamp })
     (filter (λ part. not ((part.0).0 == object.0)) parts)
@@ -43,6 +44,11 @@ links_to_others object stamp parts =
 abbrev pub with_links : List Link → List Link → List Link
 with_links [] links = links
 with_links (link ∷ later) links = with_links later (with_item linked_object link links)
+
+-- the version of a copy: that of the candidate which is copied, with links to the other objects of the copy's own group
+abbrev pub copied_state : ObjectId → Candidate → ObjState → ObjState
+copied_state object candidate state =
+    record state { links = with_links (links_to_others object candidate.stamp candidate.group) state.links }
 
 -- an object's state after an act, by its row, the object's value then, and its links to the act's other objects
 abbrev pub state_after : KeptRow → Value → List Link → ObjState → ObjState

@@ -2,11 +2,13 @@
 //! never performed twice.
 #![tactic(auto)]
 
+mod copying;
 mod links;
 mod performing;
 mod repeats;
 mod rows;
 
+pub use copying::copied;
 pub use performing::{Performed, perform};
 pub use repeats::{Standing, standing_of};
 pub use rows::{row_of, with_row};

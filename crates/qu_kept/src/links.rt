@@ -3,18 +3,18 @@ ghost use Rattle.qu_kept.specs.Keyed.{with_item};
 ghost use Rattle.qu_kept.specs.Performing.{linked_object, links_to_others, with_links};
 
 use qu_base::{List, NoMemory, ObjectId};
-use qu_objects::{Link, Method};
+use qu_objects::Link;
 use qu_stamp::Stamp;
 use std::alloc::Global;
 
-/// An object's links after an act with these parts that it is one of: the links to the others are under its own new
-/// stamp.
-pub fn links_after(
+/// An object's links after an act with these parts, or a copy with this group, that it is one of: the links to the
+/// others are under its own new stamp.
+pub fn links_after<X>(
     alloc: Global,
     links: &[Link],
     object: ObjectId,
     stamp: Stamp,
-    parts: &[(ObjectId, Method)],
+    parts: &[(ObjectId, X)],
 ) -> Result<List<Link>, NoMemory>
     ensures { IfOk result (λ new. new ≡ with_links (links_to_others object stamp parts.now) links.now) }
 {

@@ -10,18 +10,17 @@ use Rattle.qu_chain.specs.Laws.{Laws}
 use Rattle.qu_claims.specs.Digested.{NoCollision}
 use Rattle.qu_trace.specs.declared.trace.Trace.{Trace}
 use Rattle.qu_chain.proofs.Turns.{one_turn, upon_top}
-use Rattle.qu_laws.proofs.Laws.{laws}
 use Rattle.qu_chain.proofs.Groups.{decided_joint}
 use Rattle.qu_chain.proofs.Deciding.{decided_order}
-use Rattle.qu_chain.proofs.Parents.{one_candidate}
-use Rattle.qu_laws.proofs.JointLaws.{joint_laws}
+use Rattle.qu_chain.proofs.Ancestry.{one_candidate}
+use Rattle.qu_laws.proofs.JointLaws.{laws, joint_laws}
 use Rattle.qu_chain.proofs.Established.{chain}
 use Rattle.qu_chain.proofs.Tops.{top, one_top}
 use Rattle.qu_claims.specs.RunSetting.{setting}
 
 module _ (trace : Trace) (is_run : IsRun trace) (have : ArePlain trace) (no_collision : NoCollision trace) where
   law : Laws (setting trace)
-  law = laws trace is_run have
+  law = laws trace is_run have no_collision
 
   joint : Joint (setting trace)
   joint = joint_laws trace is_run have no_collision
@@ -31,7 +30,7 @@ module _ (trace : Trace) (is_run : IsRun trace) (have : ArePlain trace) (no_coll
     chain = chain (setting trace) law (setting trace).last (omega arith);
     ordered = decided_order (setting trace) law joint;
     one = λ object first second accepted again same.
-        one_candidate (setting trace) law joint (setting trace).last (setting trace).last (omega arith) (omega arith)
+        one_candidate (setting trace) law.lasting joint.one (setting trace).last (setting trace).last (omega arith) (omega arith)
         object first second accepted again same;
   }
 

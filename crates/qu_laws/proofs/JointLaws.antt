@@ -1,12 +1,13 @@
--- A run meets what is asked of all objects together, where no two digested texts have one digest.
-use Rattle.std.proofs.Common.{◌≡◌, ap, inl, inr, length, not, subst, suc, sym, true, Some, ◌∙◌, ℕ, ◌+◌, ◌<◌, ◌≤◌, arith}
+-- A run meets what is asked of its objects, of each and of all together, where no two digested texts have one digest.
+use Rattle.std.proofs.Common.{◌≡◌, ap, inl, inr, length, not, subst, suc, sym, true, Some, ◌∙◌, ℕ, ◌+◌, ◌<◌, ◌≤◌, arith, refl}
 use Rattle.std.specs.Prelude.{is_some}
-use Rattle.std.proofs.lemmas.Bool.{cases_Bool, cases_lt}
+use Rattle.std.proofs.lemmas.Bool.{cases_Bool, cases_lt, lt-ltb, ltb-true}
 use Rattle.qu_stamp.proofs.Groups.{alone_has_no_member}
 use Rattle.qu_claims.specs.Count.{test_at}
 use Rattle.qu_claims.specs.Setting.{Apart, IsNew}
 use Rattle.qu_claims.specs.Times.{world_after}
 use Rattle.qu_claims.specs.Together.{AcceptsTogether, IsJoined}
+use Rattle.qu_claims.specs.Truth.{LinksAreTrue}
 use Rattle.qu_world.specs.State.{WorldState}
 use Rattle.qu_chain.proofs.Arrival.{Turn, turn_between}
 use Rattle.qu_grounds.proofs.Together.{member_at}
@@ -21,16 +22,28 @@ use Rattle.qu_claims.specs.Origins.{Origin}
 use Rattle.qu_stamp.specs.declared.stamp.Stamp.{Stamp}
 use Rattle.qu_trace.specs.declared.trace.Trace.{Trace}
 use Rattle.qu_laws.proofs.Origins.{accepted_from, world_ends}
-use Rattle.qu_laws.proofs.ShownWhenAccepted.{start, still_accepted}
+use Rattle.qu_laws.proofs.ShownWhenAccepted.{alone, grows, rising, sizes, start, still_accepted}
 use Rattle.qu_claims.specs.Accepted.{accepts, is_accepted}
 use Rattle.qu_claims.specs.Chained.{last_world}
-use Rattle.qu_laws.proofs.Laws.{OneOfStamp, one_place, copies}
+use Rattle.qu_laws.proofs.Laws.{one_place, moves}
 use Rattle.std.proofs.lemmas.Option.{none-some}
 use Rattle.qu_stamp.specs.Candidate.{opening}
 use Rattle.qu_runs.proofs.Small.{same_candidate}
 use Rattle.qu_claims.specs.RunSetting.{setting}
 use Rattle.qu_runs.proofs.Worlds.Settings.{somewhere_accepted}
 use Rattle.qu_laws.proofs.Named.{stamps_name}
+use Rattle.qu_laws.proofs.CopySteps.{link_of}
+use Rattle.qu_laws.proofs.HowAdded.{how_added}
+use Rattle.qu_laws.proofs.LinksFrom.{links_from}
+use Rattle.qu_agreed.proofs.Made.{IsMadeBy, stored_made, upon_made}
+use Rattle.qu_links.specs.Closing.{HowAdded}
+use Rattle.qu_links.proofs.Closing.{linked, copied}
+use Rattle.qu_links.proofs.Stored.{links_are}
+use Rattle.qu_chain.specs.Early.{Early}
+use Rattle.qu_chain.specs.Laws.{Lasting, Laws, StampsAreOne}
+use Rattle.qu_objects.specs.declared.state.ObjState.{ObjState}
+use Rattle.qu_runs.proofs.Worlds.Objects.{accepted_known}
+use Rattle.qu_runs.proofs.Worlds.OpeningReplicas.{all_begin}
 
 module _ (trace : Trace) (is_run : IsRun trace) (have : ArePlain trace) where
   -- what a replica makes has a time above 0
@@ -63,17 +76,13 @@ module _ (trace : Trace) (is_run : IsRun trace) (have : ArePlain trace) where
           ]
         ]
 
-    -- also where one replica accepted it by a time of the run
-    one_by : OneOfStamp trace is_run have
+    -- also where two replicas accepted it
+    one_by : StampsAreOne (setting trace)
     unfolding setting
-    one_by time within object place candidate other accepted again same =
-        one_of_stamp object candidate other (in_the_end candidate accepted) (in_the_end other again) same
-      where
-        in_the_end : (it : Candidate) → (setting trace).accepted time object place it ≡ true
-            → is_accepted (last_world trace) object it ≡ true
-        in_the_end it accepted =
-            somewhere_accepted object it (last_world trace).replicas place
-            (still_accepted trace is_run have time (length trace.entries) within object place it accepted)
+    one_by object place elsewhere candidate other good other_good within other_within accepted again same =
+        one_of_stamp object candidate other
+        (somewhere_accepted object candidate (last_world trace).replicas place accepted)
+        (somewhere_accepted object other (last_world trace).replicas elsewhere again) same
 
     -- ---- the candidates of a group
 
@@ -159,18 +168,60 @@ module _ (trace : Trace) (is_run : IsRun trace) (have : ArePlain trace) where
               }
         ]
 
+    -- ---- what is linked, and what is copied
+
+    lasting : Lasting (setting trace)
+    lasting = record { sizes = sizes trace is_run have; grows = grows trace is_run have }
+
+    early : Early (setting trace)
+    unfolding setting
+    early = record {
+      lasting = lasting;
+      one = one_by;
+      alone_at_first = λ other. alone_has_no_member opening other refl;
+    }
+
+    -- what a replica had where it handled a request was made before
+    how : (time : ℕ) (object : ObjectId) (replica : ℕ) (candidate : Candidate)
+        → (setting trace).plain candidate ≡ true → IsNew (setting trace) time object replica candidate
+        → HowAdded (setting trace) ObjState link_of (IsMadeBy trace) time object replica candidate
+    how = how_added trace is_run have (IsMadeBy trace) (upon_made trace is_run have)
+
+    pub laws : Laws (setting trace)
+    unfolding setting
+    laws = record {
+      lasting = lasting;
+      opens = refl;
+      begins = λ object place known good within. all_begin trace object place (ltb-true _ _ known) good within;
+      start = λ object place candidate good within accepted. start trace is_run have object place candidate accepted;
+      only_known = λ time object place candidate good within accepted.
+          lt-ltb _ _ (accepted_known trace time place object candidate accepted);
+      rising = rising trace is_run have;
+      alone = alone trace is_run have;
+      moves = moves trace is_run have;
+      one_mover = one_place trace is_run have;
+      linked = linked (setting trace) early has_companion ObjState link_of (IsMadeBy trace)
+          (links_from trace is_run have) how;
+    }
+
     pub joint_laws : Joint (setting trace)
     unfolding setting
     joint_laws = record {
-      one = λ object place elsewhere candidate other good other_good within other_within accepted again same.
-          one_of_stamp object candidate other
-          (somewhere_accepted object candidate (last_world trace).replicas place accepted)
-          (somewhere_accepted object other (last_world trace).replicas elsewhere again) same;
+      one = one_by;
       joint = has_companion;
       together = λ time object other place elsewhere candidate companion apart new again.
           together_here.alone time object other place candidate companion new
           (subst (λ (it : ℕ). IsNew (setting trace) time other it companion)
           (sym (one_place trace is_run have time object other place elsewhere candidate companion new again)) again)
           apart;
-      copies = copies trace is_run have one_by;
+      copies = copied (setting trace) early has_companion ObjState link_of (IsMadeBy trace)
+          (links_from trace is_run have) how;
     }
+
+    -- the links of versions that correct replicas store are true and kept
+    pub links_true : LinksAreTrue trace
+    unfolding setting
+    links_true time within place state is_state object stamp version found candidate accepted same =
+        links_are (setting trace) early ObjState link_of (IsMadeBy trace) (links_from trace is_run have) time within
+        object stamp version candidate
+        (stored_made trace is_run have time within place state is_state object stamp version found) accepted same

@@ -1,8 +1,14 @@
 pub mod Acceptors
 pub mod KeptEntries
 pub mod Origins
-pub mod Named
 pub mod ShownWhenAccepted
+pub mod Named
 pub mod Laws
+pub mod SetsTell
+pub mod PlanTells
+pub mod CopiedTogether
+pub mod CopySteps
+pub mod HowAdded
+pub mod LinksFrom
 pub mod JointLaws
 pub mod Chained

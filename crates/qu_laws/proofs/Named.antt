@@ -1,253 +1,175 @@
--- Where no two texts have one digest, a stamp names the histories upon which its candidate was accepted, and the
--- objects on which it was made.
-use Rattle.std.proofs.Common.{◌≡◌, ℕ, ◌+◌, Bool, true, false, List, [], ◌∷◌, map, length, Some, refl, sym, ap, subst, ◌∙◌, arith}
-use Rattle.std.specs.Prelude.{Contains}
+-- Where no two texts have one digest, a stamp names the histories upon which its candidate was accepted, and with them
+-- its prior and its group.
+use Rattle.std.proofs.Common.{◌≡◌, List, length, None, sym, ap, subst, ◌∙◌, arith}
 use Rattle.std.proofs.lemmas.Bool.{false≢true}
 use Rattle.std.proofs.lemmas.Option.{none-some, same_Some}
-use Rattle.qu_base.specs.declared.party.ClientId.{ClientId}
 use Rattle.qu_base.specs.declared.party.ObjectId.{ObjectId}
-use Rattle.qu_seal.specs.declared.constants.TheConstants.{SETS_TAG}
-use Rattle.qu_seal.specs.Digesting.{digest_of}
 use Rattle.qu_stamp.specs.declared.stamp.Stamp.{Stamp}
 use Rattle.qu_stamp.specs.declared.candidate.Candidate.{Candidate}
-use Rattle.qu_history.specs.declared.sets.SetOf.{SetOf}
-use Rattle.qu_history.specs.Sets.{latest_of}
-use Rattle.qu_history.specs.Formats.{sets_form}
-use Rattle.qu_history.specs.Text.{sets_text, sets_digest}
-use Rattle.qu_history.proofs.Unsealed.{entries_of-one}
+use Rattle.qu_history.specs.History.{ObjectHistory}
+use Rattle.qu_history.specs.Sets.{entries_of}
 use Rattle.qu_objects.specs.declared.act.Method.{Method}
-use Rattle.qu_frames.specs.declared.frame.Body.{Body}
+use Rattle.qu_class.specs.Class.{is_in_sets}
+use Rattle.qu_class.specs.Repairable.{object_base}
 use Rattle.qu_frames.specs.declared.frame.Body.TheVariants as body
-use Rattle.qu_frames.specs.declared.frame.Frame.{Frame}
-use Rattle.qu_frames.specs.Formats.{frame_form}
-use Rattle.qu_fitting.proofs.FitCulled.{culled-fits}
-use Rattle.qu_fitting.proofs.FitRequests.{request-fits}
+use Rattle.qu_rows.specs.Rows.{Asked, asked_of, act_asked, fresh_group, linking_of, objects_of}
 use Rattle.qu_rows.specs.State.{ReplicaState}
 use Rattle.qu_trace.specs.declared.trace.Trace.{Trace}
 use Rattle.qu_world.specs.Run.{IsRun}
-use Rattle.qu_claims.specs.Handled.{Request, handled_by, IsHandled}
-use Rattle.qu_claims.specs.Digested.{Text, texts_of, digested, NoCollision}
-use Rattle.qu_rows.specs.Rows.{Asked, asked_of, act_asked, shown_of, fresh_stamp, fresh_group, objects_of}
-use Rattle.qu_claims.specs.Grounds.{Accepts, Reasons, made_on}
-use Rattle.qu_claims.specs.Named.{shown_to, StampsNameHistories}
-use Rattle.qu_claims.specs.Times.{world_after}
+use Rattle.qu_claims.specs.Digested.{NoCollision}
+use Rattle.qu_claims.specs.Grounds.{IsMadeFrom}
+use Rattle.qu_claims.specs.Named.{StampsNameHistories}
 use Rattle.qu_claims.specs.Origins.{Origin}
-use Rattle.qu_runs.specs.Plain.{HasEventParts, ArePlain}
-use Rattle.qu_runs.proofs.Fits.Fitting.{offered_fits}
-use Rattle.qu_runs.proofs.Events.Handing.{handed_offers}
-use Rattle.qu_world.proofs.Each.{each_at}
-use Rattle.qu_trace.specs.declared.event.Event.{Event}
-use Rattle.qu_trace.specs.declared.trace.Entry.{Entry}
-use Rattle.qu_base.specs.declared.party.Party.TheVariants as party
-use Rattle.qu_accepts.proofs.Handled.{request_upon, upon_handled, handled}
-use Rattle.qu_runs.proofs.Acts.OneAct.{ActsAreOne, acts_are_one}
-use Rattle.qu_runs.proofs.Digests.DigestedTexts.{request_digested}
+use Rattle.qu_runs.specs.Plain.{ArePlain}
+use Rattle.qu_runs.proofs.Acts.OneAct.{acts_are_one}
+use Rattle.qu_accepts.proofs.Handled.{handled}
+use Rattle.qu_accepts.proofs.Handling.{mid_bounds}
+use Rattle.qu_agreed.proofs.Agreed.{agree, both_hold}
+use Rattle.qu_agreed.proofs.Alike.{same_histories, same_objects}
+use Rattle.qu_agreed.proofs.CopiesAgree.{DoBothHold, same_times, same_prior, same_group}
+use Rattle.qu_agreed.proofs.HowMade.{HowMade, how_made}
+use Rattle.qu_agreed.proofs.Made.{upon_made}
 use Rattle.qu_laws.proofs.Origins.{accepted_from}
-use Rattle.qu_runs.proofs.Fits.Carrying.{brings_decoded}
-use Rattle.qu_machine.proofs.Firsts.{contains_at}
-use Rattle.qu_history.specs.History.{ObjectHistory}
-use Rattle.qu_class.specs.Repairable.{object_base}
-use Rattle.qu_claims.specs.Handling.{Handles}
 
--- the text of sets
-abbrev text_of : List SetOf → Text
-text_of sets = record { tag = SETS_TAG; bytes = sets_text sets }
+-- two candidates have one prior and one group
+record AreNamed (first second : Candidate) : Type 0 where
+  prior : first.prior ≡ second.prior
+  group : first.group ≡ second.group
 
--- ---- groups
+module _ (trace : Trace) (is_run : IsRun trace) (have : ArePlain trace) (no_collision : NoCollision trace)
+    (object : ObjectId) where
+  abbrev CameFrom : Candidate → Type 0
+  CameFrom candidate = Origin trace (length trace.entries) object candidate
 
--- the time of each object's candidate
-abbrev times_of : Asked → List ObjectId → List (ObjectId × ℕ)
-times_of asked objects = map (λ (object : ObjectId). (object, (fresh_stamp asked object).time)) objects
+  -- the state upon which it was made, and what was asked
+  abbrev state_at : (candidate : Candidate) → CameFrom candidate → ReplicaState
+  state_at candidate it = ((it.delivered).handles).mid
 
--- the same histories make the same times
-fresh_times : (asked other : Asked) → ((object : ObjectId) → shown_of asked object ≡ shown_of other object)
-    → (objects : List ObjectId) → times_of asked objects ≡ times_of other objects
-fresh_times asked other alike [] = refl
-fresh_times asked other alike (object ∷ later) =
-    let with_time : List ObjectHistory → List (ObjectId × ℕ) → List (ObjectId × ℕ) =
-    λ shown rest. (object, (latest_of shown).time + 1) ∷ rest in
-    ap (λ (shown : List ObjectHistory). with_time shown (times_of asked later)) (alike object)
-    ∙ ap (with_time (shown_of other object)) (fresh_times asked other alike later)
+  abbrev asked_at : (candidate : Candidate) → CameFrom candidate → Asked
+  asked_at candidate it =
+      asked_of ((it.delivered).accepts).client ((it.delivered).accepts).number ((it.delivered).accepts).sets
+      ((it.delivered).accepts).asks
 
-same_times : (asked other : Asked) → ((object : ObjectId) → shown_of asked object ≡ shown_of other object)
-    → (objects : List ObjectId) → fresh_group asked objects ≡ fresh_group other objects
-same_times asked other alike [] = refl
-same_times asked other alike (object ∷ []) = refl
-same_times asked other alike (first ∷ second ∷ later) = fresh_times asked other alike (first ∷ second ∷ later)
+  made_at : (candidate : Candidate) (it : CameFrom candidate)
+      → HowMade trace.setup.bounds (state_at candidate it) (asked_at candidate it) ((it.delivered).accepts).asks
+      object candidate
+  made_at candidate it =
+      subst (HowMade trace.setup.bounds (state_at candidate it) (asked_at candidate it) ((it.delivered).accepts).asks
+      object) it.is_candidate
+      (how_made trace.setup.bounds (state_at candidate it) it.new ((it.delivered).accepts).client
+      ((it.delivered).accepts).number ((it.delivered).accepts).sets ((it.delivered).accepts).asks
+      ((it.delivered).accepts).group ((it.delivered).accepts).candidates
+      (mid_bounds trace it.past it.place it.old it.new (it.delivered).handles) ((it.delivered).accepts).reasons object
+      (it.delivered).adds
+      (subst (λ (one : Candidate). IsMadeFrom trace.setup.bounds (linking_of (state_at candidate it))
+      (asked_at candidate it) ((it.delivered).accepts).asks object one) (sym it.is_candidate) it.made))
 
--- a replica handled it, if it is an act
-abbrev WasHandled : Trace → ClientId → ℕ → Body → Type 0
-WasHandled trace client number asks =
-    (parts : List (ObjectId × Method)) → asks ≡ body.Act parts → IsHandled trace client number parts
+  module _ (first second : Candidate) (one : CameFrom first) (two : CameFrom second)
+      (same : first.stamp ≡ second.stamp) where
+    abbrev here : ReplicaState
+    here = state_at first one
 
--- nothing is accepted upon a query
-abbrev DoesAccept : Body → Type 0
-DoesAccept (body.Act parts) = Unit {0}
-DoesAccept (body.Ask parts) = ⊥
-DoesAccept (body.Mend target) = Unit {0}
+    abbrev there : ReplicaState
+    there = state_at second two
 
-does_accept : (old new : ReplicaState) (asked : Asked) (asks : Body) (group : List (ObjectId × ℕ))
-    (candidates : ObjectId → Candidate) → Reasons old new asked asks group candidates → DoesAccept asks
-does_accept old new asked (body.Act parts) group candidates reasons = tt
-does_accept old new asked (body.Ask parts) group candidates never = never
-does_accept old new asked (body.Mend target) group candidates reasons = tt
+    abbrev asked : Asked
+    asked = asked_at first one
 
-module _ (bounds : ℕ) (asked other : Asked)
-    (alike : (object : ObjectId) → shown_of asked object ≡ shown_of other object) (object : ObjectId) where
-  -- a barrier is set alone, and what is copied together the histories tell
-  same_copied : (target besides : ObjectId) (first second : Bool) → first ≡ second
-      → fresh_group other (made_on bounds asked (body.Mend target) object first)
-      ≡ fresh_group other (made_on bounds other (body.Mend besides) object second)
-  same_copied target besides true true same = refl
-  same_copied target besides true false same = absurd (false≢true (sym same))
-  same_copied target besides false true same = absurd (false≢true same)
-  same_copied target besides false false same =
-      ap (λ (entries : List ObjectHistory). fresh_group other (objects_of (object_base bounds entries).group))
-      (alike object)
+    abbrev beside : Asked
+    beside = asked_at second two
 
-  -- one act is on the same objects
-  same_objects : (trace : Trace) → ActsAreOne trace → (client who : ClientId) (number turn : ℕ)
-      (asks besides : Body) → DoesAccept asks → DoesAccept besides → WasHandled trace client number asks
-      → WasHandled trace who turn besides → act_asked client number asks ≡ act_asked who turn besides
-      → (first second : Bool) → first ≡ second
-      → fresh_group other (made_on bounds asked asks object first)
-      ≡ fresh_group other (made_on bounds other besides object second)
-  same_objects trace one_act client who number turn (body.Act parts) (body.Act others) does also one two same first
-      second kind =
-      ap (λ (it : List (ObjectId × Method)). fresh_group other (objects_of it))
-      (one_act client who number turn parts others (one parts refl) (two others refl) (same_Some _ _ same)).2
-  same_objects trace one_act client who number turn (body.Act parts) (body.Ask asks) does never one two same first
-      second kind = absurd never
-  same_objects trace one_act client who number turn (body.Act parts) (body.Mend target) does also one two same first
-      second kind = absurd (none-some _ (sym same))
-  same_objects trace one_act client who number turn (body.Ask asks) besides never also one two same first second kind =
-      absurd never
-  same_objects trace one_act client who number turn (body.Mend target) (body.Act parts) does also one two same first
-      second kind = absurd (none-some _ same)
-  same_objects trace one_act client who number turn (body.Mend target) (body.Ask asks) does never one two same first
-      second kind = absurd never
-  same_objects trace one_act client who number turn (body.Mend target) (body.Mend besides) does also one two same first
-      second kind = same_copied target besides first second kind
+    alike : (of : ObjectId) → entries_of of asked.sets ≡ entries_of of beside.sets
+    alike = same_histories trace is_run have no_collision object first second one two same
 
--- ---- histories
+    alike_in : (of : ObjectId) → is_in_sets asked.sets of ≡ is_in_sets beside.sets of
+    alike_in = same_objects trace is_run have no_collision object first second one two same
 
-module _ (trace : Trace) (is_run : IsRun trace) (plain : ArePlain trace) where
-  -- the culled sets upon which a candidate was accepted
-  abbrev sets_upon : (object : ObjectId) (candidate : Candidate) → Origin trace (length trace.entries) object
-      candidate → List SetOf
-  sets_upon object candidate it = ((it.delivered).accepts).sets
+    hold : DoBothHold here there
+    hold =
+        both_hold trace is_run have (length trace.entries)
+        (agree trace is_run have no_collision (length trace.entries))
+        one.past (omega (arith, one.earlier)) two.past (omega (arith, two.earlier)) here there
+        (upon_made trace is_run have one.past one.earlier one.place one.old one.new (one.delivered).handles)
+        (upon_made trace is_run have two.past two.earlier two.place two.old two.new (two.delivered).handles)
 
-  -- the event of an entry has parts
-  event_parts : (entry : Entry) → Contains trace.entries entry → (event : Event) → event ≡ entry.event
-      → HasEventParts event
-  event_parts entry among event is =
-      subst HasEventParts (ap (λ (it : Entry). it.event) among.2 ∙ sym is)
-      (each_at (λ (it : Entry). HasEventParts it.event) trace.entries among.0 entry (plain.typed).parts among.1)
+    same_act : asked.act ≡ beside.act
+    same_act =
+        sym (ap (λ (made : Stamp). made.act) (one.made).stamp) ∙ ap (λ (made : Stamp). made.act) same
+        ∙ ap (λ (made : Stamp). made.act) (two.made).stamp
 
-  sets_fit : (object : ObjectId) (candidate : Candidate)
-      (it : Origin trace (length trace.entries) object candidate) → sets_form.Fits (sets_upon object candidate it)
-  sets_fit object candidate it =
-      let handles : Handles trace it.past it.place it.old it.new = (it.delivered).handles in
-      let one : Accepts handles.mid it.new handles.carried = (it.delivered).accepts in
-      let fits : frame_form.Fits handles.carried =
-      offered_fits trace is_run plain.typed handles.since (omega (arith, it.earlier, handles.came))
-      (handles.entry).event
-      (event_parts handles.entry (contains_at trace.entries handles.since handles.entry handles.is_entry)
-      (handles.entry).event refl)
-      (party.Replica (record { 0 = it.place })) handles.text
-      (handed_offers (world_after trace handles.since) (handles.entry).event (party.Replica (record { 0 = it.place }))
-      handles.text handles.is_handed) handles.carried
-      (brings_decoded handles.receiver handles.text handles.carried handles.brings) in
-      subst sets_form.Fits one.culls
-      (culled-fits (handles.mid).keys (handles.mid).me one.sent
-      (request-fits one.client one.number one.round one.sent one.asks one.mac
-      (subst (λ (sent : Frame). frame_form.Fits sent) one.is_request fits)).shown)
+    abbrev base_stamp : List ObjectHistory → Stamp
+    base_stamp entries = (object_base trace.setup.bounds entries).stamp
 
-  sets_digested : (object : ObjectId) (candidate : Candidate)
-      (it : Origin trace (length trace.entries) object candidate) → Contains (digested trace)
-      (text_of (sets_upon object candidate it))
-  sets_digested object candidate it =
-      let sets : List SetOf = sets_upon object candidate it in
-      let handles : Handles trace it.past it.place it.old it.new = (it.delivered).handles in
-      let request : Request = request_upon handles.mid it.new handles.carried (it.delivered).accepts in
-      let handled : handled_by trace (handles.entry).event ≡ Some request =
-      upon_handled trace is_run it.past it.earlier it.place it.old it.new object it.delivered in
-      let among : Contains (texts_of (Some request)) (text_of sets) = (0, omega arith, refl) in
-      request_digested trace handles.entry (Some request) (text_of sets)
-      (contains_at trace.entries handles.since handles.entry handles.is_entry) handled among
+    -- upon the object candidate of the same histories
+    upon_base : first.prior ≡ base_stamp (entries_of object asked.sets)
+        → second.prior ≡ base_stamp (entries_of object beside.sets) → first.prior ≡ second.prior
+    upon_base it also = it ∙ ap base_stamp (alike object) ∙ sym also
 
-  -- the stamp holds the digest of the sets
-  digest_named : (object : ObjectId) (candidate : Candidate)
-      (it : Origin trace (length trace.entries) object candidate) → ((candidate.stamp).set).0 ≡ digest_of SETS_TAG
-      (sets_text (sets_upon object candidate it))
-  unfolding sets_digest
-  digest_named object candidate it = ap (λ (made : Stamp). (made.set).0) (it.made).stamp
+    acts_named : (parts others : List (ObjectId × Method)) → ((one.delivered).accepts).asks ≡ body.Act parts
+        → ((two.delivered).accepts).asks ≡ body.Act others
+        → first.prior ≡ base_stamp (entries_of object asked.sets)
+        → second.prior ≡ base_stamp (entries_of object beside.sets)
+        → first.group ≡ fresh_group asked (objects_of parts) → second.group ≡ fresh_group beside (objects_of others)
+        → AreNamed first second
+    acts_named parts others is also prior besides group grouped =
+        let acts = acts_are_one trace is_run have no_collision ((one.delivered).accepts).client
+        ((two.delivered).accepts).client ((one.delivered).accepts).number ((two.delivered).accepts).number parts others
+        (handled trace is_run one.past one.earlier one.place one.old one.new object one.delivered parts is)
+        (handled trace is_run two.past two.earlier two.place two.old two.new object two.delivered others also)
+        (same_Some _ _ (sym (ap (act_asked ((one.delivered).accepts).client ((one.delivered).accepts).number) is)
+        ∙ same_act
+        ∙ ap (act_asked ((two.delivered).accepts).client ((two.delivered).accepts).number) also)) in
+        record {
+          prior = upon_base prior besides;
+          group = group ∙ same_times asked beside alike (objects_of parts)
+              ∙ ap (λ (it : List (ObjectId × Method)). fresh_group beside (objects_of it)) acts.2 ∙ sym grouped;
+        }
 
-  -- ---- what it names
+    -- an act has a digest, and what no operation makes has none
+    not_both : (parts : List (ObjectId × Method)) → ((one.delivered).accepts).asks ≡ body.Act parts
+        → beside.act ≡ None → ⊥
+    not_both parts is none =
+        none-some _ (sym none ∙ sym same_act
+        ∙ ap (act_asked ((one.delivered).accepts).client ((one.delivered).accepts).number) is)
 
-  same_histories : NoCollision trace → (object : ObjectId) (first second : Candidate)
-      (one : Origin trace (length trace.entries) object first)
-      (other : Origin trace (length trace.entries) object second)
-      → first.stamp ≡ second.stamp → (of : ObjectId) → shown_to trace (length trace.entries) object first one of
-      ≡ shown_to trace (length trace.entries) object second other of
-  same_histories no_collision object first second one other same of =
-      let sets : List SetOf = sets_upon object first one in
-      let others : List SetOf = sets_upon object second other in
-      let digests : digest_of SETS_TAG (sets_text sets) ≡ digest_of SETS_TAG (sets_text others) =
-      sym (digest_named object first one) ∙ ap (λ (stamp : Stamp). (stamp.set).0) same
-      ∙ digest_named object second other in
-      let texts : text_of sets ≡ text_of others =
-      no_collision (text_of sets) (text_of others) (sets_digested object first one)
-      (sets_digested object second other) digests in
-      entries_of-one sets others (sets_fit object first one) (sets_fit object second other)
-      (ap (λ (it : Text). it.bytes) texts) of
+    nor_both : (parts : List (ObjectId × Method)) → ((two.delivered).accepts).asks ≡ body.Act parts
+        → asked.act ≡ None → ⊥
+    nor_both parts is none =
+        none-some _ (sym none ∙ same_act
+        ∙ ap (act_asked ((two.delivered).accepts).client ((two.delivered).accepts).number) is)
 
-  -- and with them the object candidate, upon which it was made
-  same_prior : NoCollision trace → (object : ObjectId) (first second : Candidate)
-      → Origin trace (length trace.entries) object first → Origin trace (length trace.entries) object second
-      → first.stamp ≡ second.stamp → first.prior ≡ second.prior
-  same_prior no_collision object first second one other same =
-      (one.made).prior
-      ∙ ap (λ (entries : List ObjectHistory). (object_base trace.setup.bounds entries).stamp)
-      (same_histories no_collision object first second one other same object)
-      ∙ sym (other.made).prior
+    named_by : HowMade trace.setup.bounds here asked ((one.delivered).accepts).asks object first
+        → HowMade trace.setup.bounds there beside ((two.delivered).accepts).asks object second
+        → AreNamed first second
+    named_by (HowMade.by_act parts is made) (HowMade.by_act others also again) =
+        acts_named parts others is also made.prior again.prior made.group again.group
+    named_by (HowMade.by_act parts is made) (HowMade.by_barrier none barrier again) = absurd (not_both parts is none)
+    named_by (HowMade.by_act parts is made) (HowMade.by_copy none again) = absurd (not_both parts is none)
+    named_by (HowMade.by_barrier none barrier made) (HowMade.by_act parts is again) = absurd (nor_both parts is none)
+    named_by (HowMade.by_barrier none barrier made) (HowMade.by_barrier nor also again) = record {
+      prior = upon_base made.prior again.prior;
+      group = made.group ∙ sym again.group;
+    }
+    named_by (HowMade.by_barrier none barrier made) (HowMade.by_copy nor again) =
+        absurd (false≢true (sym again.plain ∙ sym (ap (λ (it : Stamp). it.barrier) same) ∙ barrier))
+    named_by (HowMade.by_copy none made) (HowMade.by_act parts is again) = absurd (nor_both parts is none)
+    named_by (HowMade.by_copy none made) (HowMade.by_barrier nor barrier again) =
+        absurd (false≢true (sym made.plain ∙ ap (λ (it : Stamp). it.barrier) same ∙ barrier))
+    named_by (HowMade.by_copy none made) (HowMade.by_copy nor again) = record {
+      prior = same_prior here there hold trace.setup.bounds asked beside alike alike_in object first second made again;
+      group = same_group here there hold trace.setup.bounds asked beside alike alike_in object first second made again;
+    }
 
-  -- and with them, or with the act, the objects on which it was made
-  was_handled : (object : ObjectId) (candidate : Candidate) (it : Origin trace (length trace.entries) object candidate)
-      (parts : List (ObjectId × Method)) → ((it.delivered).accepts).asks ≡ body.Act parts
-      → IsHandled trace ((it.delivered).accepts).client ((it.delivered).accepts).number parts
-  was_handled object candidate it parts is =
-      handled trace is_run it.past it.earlier it.place it.old it.new object it.delivered parts is
+    are_named : AreNamed first second
+    are_named = named_by (made_at first one) (made_at second two)
 
-  same_group : NoCollision trace → (object : ObjectId) (first second : Candidate)
-      → Origin trace (length trace.entries) object first → Origin trace (length trace.entries) object second
-      → first.stamp ≡ second.stamp → first.group ≡ second.group
-  same_group no_collision object first second one other same =
-      let here : Accepts ((one.delivered).handles).mid one.new ((one.delivered).handles).carried =
-      (one.delivered).accepts in
-      let there : Accepts ((other.delivered).handles).mid other.new ((other.delivered).handles).carried =
-      (other.delivered).accepts in
-      let asked : Asked = asked_of here.client here.number here.sets here.asks in
-      let besides : Asked = asked_of there.client there.number there.sets there.asks in
-      let alike : (of : ObjectId) → shown_of asked of ≡ shown_of besides of =
-      same_histories no_collision object first second one other same in
-      (one.made).group
-      ∙ same_times asked besides alike
-      (made_on trace.setup.bounds asked here.asks object first.stamp.barrier)
-      ∙ same_objects trace.setup.bounds asked besides alike object trace (acts_are_one trace is_run plain no_collision)
-      here.client there.client here.number there.number here.asks there.asks
-      (does_accept _ _ asked here.asks here.group here.candidates here.reasons)
-      (does_accept _ _ besides there.asks there.group there.candidates there.reasons)
-      (was_handled object first one) (was_handled object second other)
-      (sym (ap (λ (it : Stamp). it.act) (one.made).stamp) ∙ ap (λ (it : Stamp). it.act) same
-      ∙ ap (λ (it : Stamp). it.act) (other.made).stamp)
-      first.stamp.barrier second.stamp.barrier (ap (λ (it : Stamp). it.barrier) same)
-      ∙ sym (other.made).group
-
+module _ (trace : Trace) (is_run : IsRun trace) (have : ArePlain trace) where
   pub stamps_name : NoCollision trace → StampsNameHistories trace
   stamps_name no_collision = record {
-    origin = accepted_from trace is_run plain;
-    histories = same_histories no_collision;
-    prior = same_prior no_collision;
-    group = same_group no_collision;
+    origin = accepted_from trace is_run have;
+    histories = same_histories trace is_run have no_collision;
+    prior = λ object first second one two same.
+        (are_named trace is_run have no_collision object first second one two same).prior;
+    group = λ object first second one two same.
+        (are_named trace is_run have no_collision object first second one two same).group;
   }

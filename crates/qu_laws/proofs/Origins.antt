@@ -30,7 +30,7 @@ use Rattle.qu_history.specs.Sets.{order_of, entries_of}
 use Rattle.qu_claims.specs.RunSetting.{setting}
 use Rattle.qu_chain.proofs.Ancestry.{Acceptor, acceptor}
 use Rattle.qu_claims.specs.Setting.{acceptors}
-use Rattle.qu_rows.specs.Rows.{asked_of}
+use Rattle.qu_rows.specs.Rows.{asked_of, linking_of}
 use Rattle.qu_chain.proofs.Counting.{Found, found_at}
 use Rattle.qu_history.specs.declared.sets.SetOf.{SetOf}
 use Rattle.qu_base.specs.Bounds.{repair, replicas, AreThresholds}
@@ -148,7 +148,8 @@ module _ (trace : Trace) (is_run : IsRun trace) (have : ArePlain trace) where
               delivered = delivered;
               is_candidate = refl;
               made = subst (λ (bounds : ℕ).
-                  IsMadeFrom bounds (asked_of one.client one.number one.sets one.asks) one.asks object
+                  IsMadeFrom bounds (linking_of handles.mid)
+                  (asked_of one.client one.number one.sets one.asks) one.asks object
                   (one.candidates object))
                   (mid_bounds trace count place old new handles) made;
             })

@@ -44,6 +44,7 @@ use Rattle.qu_class.specs.Rows.{AreWellFormed}
 use Rattle.qu_trace.specs.Faulty.{is_good}
 use Rattle.qu_frames.specs.declared.frame.Body.{Body}
 use Rattle.qu_grounds.proofs.Acceptance.{IsFormed}
+use Rattle.qu_grounds.proofs.Formed.{AreGrouped}
 use Rattle.qu_shown.specs.Views.{WasHeld, HeldIfCorrect}
 use Rattle.qu_laws.proofs.Acceptors.{StandsAt, stands_at}
 use Rattle.qu_history.proofs.Stamps.{not_below_latest}
@@ -147,16 +148,16 @@ module _ (trace : Trace) (is_run : IsRun trace) (have : ArePlain trace) where
       let parts = and_parts _ _ both in
       and_from _ _ parts.0 (still_accepted from to order object replica candidate parts.1))
 
-  -- what the replica had accepted, it held, whatever it learned
-  pub held_before : (time : ℕ) (object : ObjectId) (place : ℕ) (candidate earlier : Candidate)
+  -- what the replica had accepted, on this object or another, it held, whatever it learned
+  pub held_before : (time : ℕ) (object of : ObjectId) (place : ℕ) (candidate earlier : Candidate)
       (accepted : Acceptance trace time object place candidate)
-      → (setting trace).accepted time object place earlier ≡ true
-      → accepts object earlier ((accepted.delivered).handles).mid ≡ true
+      → (setting trace).accepted time of place earlier ≡ true
+      → accepts of earlier ((accepted.delivered).handles).mid ≡ true
   unfolding setting
-  held_before time object place candidate earlier accepted before =
+  held_before time object of place candidate earlier accepted before =
       let handles : Handles trace time place accepted.old accepted.new = (accepted.delivered).handles in
-      ap (holds earlier) (mid_candidates trace time accepted.old handles.mid handles.learns object)
-      ∙ sym (test_at-here (accepts object earlier) (world_after trace time).replicas place accepted.old handles.is_old)
+      ap (holds earlier) (mid_candidates trace time accepted.old handles.mid handles.learns of)
+      ∙ sym (test_at-here (accepts of earlier) (world_after trace time).replicas place accepted.old handles.is_old)
       ∙ before
 
   pub rising : (time : ℕ) (object : ObjectId) (place : ℕ) (candidate earlier : Candidate)
@@ -169,7 +170,7 @@ module _ (trace : Trace) (is_run : IsRun trace) (have : ArePlain trace) where
       (added_above ((accepted.delivered).handles).mid accepted.new (asked_for accepted)
       ((accepted.delivered).accepts).group ((accepted.delivered).accepts).candidates
       ((accepted.delivered).accepts).asks ((accepted.delivered).accepts).reasons object (accepted.delivered).adds
-      earlier (held_before time object place candidate earlier accepted before))
+      earlier (held_before time object object place candidate earlier accepted before))
 
   pub alone : (time : ℕ) (object : ObjectId) (place : ℕ) (candidate other : Candidate)
       → IsNew (setting trace) time object place candidate → IsNew (setting trace) time object place other
@@ -198,8 +199,9 @@ module _ (trace : Trace) (is_run : IsRun trace) (have : ArePlain trace) where
     abbrev one : Accepts handles.mid accepted.new handles.carried
     one = (accepted.delivered).accepts
 
-    abbrev pub shown_then : List ObjectHistory
-    shown_then = entries_of object one.sets
+    -- of an object of the request, which may be another than that on which it is accepted
+    abbrev pub shown_then : ObjectId → List ObjectHistory
+    shown_then of = entries_of of one.sets
 
     pub bounds_then : (handles.mid).keys.bounds ≡ trace.setup.bounds
     bounds_then = mid_bounds trace time place accepted.old accepted.new handles
@@ -225,61 +227,70 @@ module _ (trace : Trace) (is_run : IsRun trace) (have : ArePlain trace) where
     culls_it : culled (handles.receiver).keys (handles.receiver).me one.sent ≡ one.sets
     culls_it = culls_so trace is_run time within place accepted.old accepted.new object accepted.delivered
 
-    -- the entries of an object are histories, of which the class can be told
-    pub formed_then : AreWellFormed trace.setup.bounds shown_then
-    formed_then =
-        subst (λ (bounds : ℕ). AreWellFormed bounds shown_then)
-        (bounds_are trace handles.since place handles.receiver handles.is_receiver)
-        (subst (λ (sets : List SetOf). AreWellFormed (handles.receiver).keys.bounds (entries_of object sets)) culls_it
-        ((subst (IsFormed handles.receiver) one.is_request
-        (formed_by handles.receiver handles.carried
+    formed_frame : IsFormed handles.receiver handles.carried
+    formed_frame =
+        formed_by handles.receiver handles.carried
         (subst AreThresholds (sym (bounds_are trace handles.since place handles.receiver handles.is_receiver))
         (are_thresholds trace.setup.bounds (is_run.setup).some_faults))
-        (handled_fits trace is_run have time within place accepted.old accepted.new handles)) object).0))
+        (handled_fits trace is_run have time within place accepted.old accepted.new handles)
+
+    -- the entries of an object are histories, of which the class can be told
+    pub formed_then : (of : ObjectId) → AreWellFormed trace.setup.bounds (shown_then of)
+    formed_then of =
+        subst (λ (bounds : ℕ). AreWellFormed bounds (shown_then of))
+        (bounds_are trace handles.since place handles.receiver handles.is_receiver)
+        (subst (λ (sets : List SetOf). AreWellFormed (handles.receiver).keys.bounds (entries_of of sets)) culls_it
+        (subst (IsFormed handles.receiver) one.is_request formed_frame of).0)
+
+    -- and their candidates have groups, or stand alone
+    pub grouped_then : (of : ObjectId) → AreGrouped (shown_then of)
+    grouped_then of =
+        subst (λ (sets : List SetOf). AreGrouped (entries_of of sets)) culls_it
+        (subst (IsFormed handles.receiver) one.is_request formed_frame of).1
 
     -- so many accepted what is shown that with the faulty ones they are as many as show it
-    pub shown_accepted : (other : Candidate)
-        → order_of other shown_then ≤ acceptors (setting trace) time object other + (setting trace).faults
-    shown_accepted other =
-        let at_first : order_of other shown_then
-        ≤ acceptors (setting trace) handles.since object other + (setting trace).faults =
-        subst (λ (sets : List SetOf). order_of other (entries_of object sets)
-        ≤ acceptors (setting trace) handles.since object other + (setting trace).faults) culls_it
+    pub shown_accepted : (of : ObjectId) (other : Candidate)
+        → order_of other (shown_then of) ≤ acceptors (setting trace) time of other + (setting trace).faults
+    shown_accepted of other =
+        let at_first : order_of other (shown_then of)
+        ≤ acceptors (setting trace) handles.since of other + (setting trace).faults =
+        subst (λ (sets : List SetOf). order_of other (entries_of of sets)
+        ≤ acceptors (setting trace) handles.since of other + (setting trace).faults) culls_it
         (shown_by_accepting trace is_run have handles.since came_within some_entry place handles.receiver
         handles.is_receiver handles.text hands_it one.client one.number one.round one.sent one.asks one.mac brings_it
-        known_it object other) in
-        let later : acceptors (setting trace) handles.since object other ≤ acceptors (setting trace) time object other =
-        acceptors_later handles.since time handles.came object other in
+        known_it of other) in
+        let later : acceptors (setting trace) handles.since of other ≤ acceptors (setting trace) time of other =
+        acceptors_later handles.since time handles.came of other in
         omega (arith, at_first, later)
 
     -- ---- what is established is shown below a barrier that a quorum shows
 
     -- the replica at this place did not ever accept the other candidate, or is faulty
-    abbrev lacks : Candidate → ℕ → Bool
-    lacks other at = not (is_good trace.setup at && (setting trace).accepted (setting trace).last object at other)
+    abbrev lacks : ObjectId → Candidate → ℕ → Bool
+    lacks of other at = not (is_good trace.setup at && (setting trace).accepted (setting trace).last of at other)
 
     -- a correct replica whose history has the higher candidate, and not the lower one, never accepts the lower one
-    never_later : (history : ObjectHistory) (higher lower : Candidate) → history.object ≡ object
+    never_later : (of : ObjectId) (history : ObjectHistory) (higher lower : Candidate) → history.object ≡ of
         → WasHeld trace handles.since history → holds higher history.candidates ≡ true
         → holds lower history.candidates ≡ false → is_below lower.stamp higher.stamp ≡ true
         → is_good trace.setup (history.replica).0 ≡ true → (history.replica).0 < (setting trace).n
-        → (setting trace).accepted (setting trace).last object (history.replica).0 lower ≡ true → ⊥
+        → (setting trace).accepted (setting trace).last of (history.replica).0 lower ≡ true → ⊥
     unfolding setting
-    never_later history higher lower objects was has lacks_it below good among ever =
+    never_later of history higher lower objects was has lacks_it below good among ever =
         let at : ℕ = (history.replica).0 in
         let stands : StandsAt (world_after trace was.past) history =
         stands_at (world_after trace was.past) history was.held in
         let earlier : was.past ≤ handles.since = was.earlier in
-        let then : (it : Candidate) → test_at (accepts object it) (world_after trace was.past).replicas at
+        let then : (it : Candidate) → test_at (accepts of it) (world_after trace was.past).replicas at
         ≡ holds it history.candidates =
         λ it. ap (λ (on : ObjectId). test_at (accepts on it) (world_after trace was.past).replicas at) (sym objects)
         ∙ test_at-here (accepts history.object it) (world_after trace was.past).replicas at stands.state
         stands.is_replica
         ∙ ap (λ (found : Option ObjectHistory). holds it (candidates_in found)) stands.found in
-        let turn : Turn (λ (now : ℕ). (setting trace).accepted now object at lower) was.past (length trace.entries) =
-        turn_between (λ (now : ℕ). (setting trace).accepted now object at lower) was.past (length trace.entries)
+        let turn : Turn (λ (now : ℕ). (setting trace).accepted now of at lower) was.past (length trace.entries) =
+        turn_between (λ (now : ℕ). (setting trace).accepted now of at lower) was.past (length trace.entries)
         (omega (arith, earlier, came_within)) (then lower ∙ lacks_it) ever in
-        let new : IsNew (setting trace) turn.time object at lower = record {
+        let new : IsNew (setting trace) turn.time of at lower = record {
           step = turn.within;
           within = among;
           good = good;
@@ -287,28 +298,29 @@ module _ (trace : Trace) (is_run : IsRun trace) (have : ArePlain trace) where
           before = turn.before;
         } in
         false≢true (sym (is_below-not_back lower.stamp higher.stamp below)
-        ∙ rising turn.time object at lower higher new
-        (still_accepted was.past turn.time turn.from object at higher (then higher ∙ has)))
+        ∙ rising turn.time of at lower higher new
+        (still_accepted was.past turn.time turn.from of at higher (then higher ∙ has)))
 
-    pub established_is_shown : (barrier other : Candidate) → quorum trace.setup.bounds ≤ order_of barrier shown_then
-        → IsEstablished (setting trace) (setting trace).last object other
-        → is_below other.stamp barrier.stamp ≡ true → repair trace.setup.bounds ≤ order_of other shown_then
+    pub established_is_shown : (of : ObjectId) (barrier other : Candidate)
+        → quorum trace.setup.bounds ≤ order_of barrier (shown_then of)
+        → IsEstablished (setting trace) (setting trace).last of other
+        → is_below other.stamp barrier.stamp ≡ true → repair trace.setup.bounds ≤ order_of other (shown_then of)
     unfolding setting order_of
-    established_is_shown barrier other full established below =
+    established_is_shown of barrier other full established below =
         let n : ℕ = replicas trace.setup.bounds in
-        let ever : ℕ → Bool = λ at. is_good trace.setup at && (setting trace).accepted (setting trace).last object at
-        other in
-        let most : count_by (λ (it : ObjectHistory). holds barrier it.candidates) shown_then
-        ≤ count_by (λ (it : ObjectHistory). holds other it.candidates) shown_then + count n (lacks other) =
+        let ever : ℕ → Bool = λ at. is_good trace.setup at && (setting trace).accepted (setting trace).last of at other
+        in
+        let most : count_by (λ (it : ObjectHistory). holds barrier it.candidates) (shown_then of)
+        ≤ count_by (λ (it : ObjectHistory). holds other it.candidates) (shown_then of) + count n (lacks of other) =
         subst (λ (sets : List SetOf). count_by (λ (it : ObjectHistory). holds barrier it.candidates)
-        (entries_of object sets)
-        ≤ count_by (λ (it : ObjectHistory). holds other it.candidates) (entries_of object sets)
-        + count n (lacks other)) culls_it
+        (entries_of of sets)
+        ≤ count_by (λ (it : ObjectHistory). holds other it.candidates) (entries_of of sets)
+        + count n (lacks of other)) culls_it
         (counted trace is_run have handles.since came_within some_entry place handles.receiver handles.is_receiver
         handles.text hands_it one.client one.number one.round one.sent one.asks one.mac brings_it known_it
-        object (λ it. holds barrier it.candidates) (λ it. holds other it.candidates) (lacks other)
+        of (λ it. holds barrier it.candidates) (λ it. holds other it.candidates) (lacks of other)
         (λ history objects among was has lacks_it. lacking history objects among was has lacks_it)) in
-        let all : count n ever + count n (lacks other) ≡ n = count-not n ever in
+        let all : count n ever + count n (lacks of other) ≡ n = count-not n ever in
         let enough : (setting trace).quorum ≤ count n ever + (setting trace).b = established in
         let sizes_are : Sizes (setting trace) = sizes in
         let shares : n + trace.setup.bounds + repair trace.setup.bounds
@@ -319,11 +331,11 @@ module _ (trace : Trace) (is_run : IsRun trace) (have : ArePlain trace) where
         by_test true never = absurd (never refl)
         by_test false never = refl
 
-        lacking : (history : ObjectHistory) → history.object ≡ object
+        lacking : (history : ObjectHistory) → history.object ≡ of
             → (history.replica).0 < replicas trace.setup.bounds → HeldIfCorrect trace handles.since history
             → holds barrier history.candidates ≡ true → holds other history.candidates ≡ false
-            → lacks other (history.replica).0 ≡ true
+            → lacks of other (history.replica).0 ≡ true
         lacking history objects among was has lacks_it =
             by_test _ (λ both.
             let parts = and_parts _ _ both in
-            never_later history barrier other objects (was parts.0) has lacks_it below parts.0 among parts.1)
+            never_later of history barrier other objects (was parts.0) has lacks_it below parts.0 among parts.1)

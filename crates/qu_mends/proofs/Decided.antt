@@ -12,18 +12,19 @@ use Rattle.qu_stamp.specs.Stamp.{is_below}
 use Rattle.qu_history.specs.declared.limits.TheConstants.{HISTORY_LIMIT}
 use Rattle.qu_history.specs.History.{latest}
 use Rattle.qu_objects.specs.declared.state.ObjState.{ObjState}
+use Rattle.qu_kept.specs.Performing.{copied_state}
 use Rattle.qu_frames.specs.declared.verdict.Refusal.{Refusal}
-use Rattle.qu_frames.specs.declared.verdict.Refusal.TheVariants.{Needs, Sound, NotCurrent, TimeSpent, HistoryFull}
+use Rattle.qu_frames.specs.declared.verdict.Refusal.TheVariants.{Needs, Stale, Sound, NotCurrent, TimeSpent, HistoryFull}
 use Rattle.qu_mends.specs.declared.accepted.Accepted.{Accepted}
 use Rattle.qu_mends.specs.declared.remedy.Remedy.{Remedy}
-use Rattle.qu_mends.specs.declared.remedy.Remedy.TheVariants.{Nothing, Shown, Fresh, Unshown, Unplanned}
+use Rattle.qu_mends.specs.declared.remedy.Remedy.TheVariants.{Nothing, Shown, Fresh, Unshown, Unplanned, Outdated}
 use Rattle.qu_mends.specs.declared.mend.Mend.{Mend}
 use Rattle.qu_mends.specs.declared.mending.Mending.{Mending}
 use Rattle.qu_mends.specs.declared.mending.Mending.TheVariants.{Mends, Holds, Refuses, Waits}
-use Rattle.qu_mends.specs.Remedy.{MendPart, alike, fresh_repair, addition_by, addition_of, part_addition, missing_key, wanted_by, stored_by}
+use Rattle.qu_mends.specs.Remedy.{MendPart, fresh_repair, addition_by, addition_of, part_addition, missing_key, wanted_by, stored_by}
 use Rattle.qu_mends.specs.Table.{first_given, has_no_room}
-use Rattle.qu_mends.specs.Mending.{unplanned_by, is_held_in, is_held_part, is_passed, is_late, is_spent, missing_in, accepted_parts, unmended_by, mend_row_plan, mend_row_held, mend_row_current, mend_row_sound, mend_row_version, mend_row_time, mend_row_full, mend_row_mended, decide_mend}
-use Rattle.qu_mends.specs.Causes.{MakesCandidate, AddsVersion, IsBehind, IsSpent, ArePartsOf, RefusesFor, IsPartAdded, ArePartsAdded, IsPartHeld, HasCause}
+use Rattle.qu_mends.specs.Mending.{unplanned_by, is_held_in, is_held_part, is_overtaken, is_late, is_spent, missing_in, accepted_parts, unmended_by, mend_row_plan, mend_row_held, mend_row_current, mend_row_sound, mend_row_version, mend_row_time, mend_row_full, mend_row_mended, decide_mend}
+use Rattle.qu_mends.specs.Causes.{MakesCandidate, AddsVersion, IsBehind, IsSpent, ArePartsOf, AddsPlain, RefusesFor, IsPartAdded, ArePartsAdded, IsPartHeld, HasCause}
 
 -- ---- the first row that fits
 
@@ -107,6 +108,7 @@ module _ (mend : Mend) where
   made latest Nothing candidate is = absurd cc
   made latest (Unshown member) candidate is = absurd cc
   made latest (Unplanned other) candidate is = absurd cc
+  made latest (Outdated other) candidate is = absurd cc
   made latest (Shown shown) candidate is =
       let both = by_test (leb shown.stamp.time LAST_TIME) shown candidate is in
       (both.0, leb-true shown.stamp.time LAST_TIME both.1)
@@ -125,45 +127,51 @@ module _ (mend : Mend) where
   spent latest Nothing planned unsound none = absurd cc
   spent latest (Unshown member) planned unsound none = absurd cc
   spent latest (Unplanned other) planned unsound none = absurd cc
+  spent latest (Outdated other) planned unsound none = absurd cc
   spent latest (Shown shown) planned unsound none =
       leb-false shown.stamp.time LAST_TIME (not_added (leb shown.stamp.time LAST_TIME) shown none)
   spent latest (Fresh barrier prior) planned unsound none =
       ltb-false latest.time LAST_TIME
       (not_added (ltb latest.time LAST_TIME) (fresh_repair mend latest barrier prior) none)
 
-  -- what is alike is planned and to be mended too
-  planned_alike : (remedy : Remedy) (base : Candidate) → unplanned_by (alike remedy base) ≡ None
-  planned_alike Nothing base = refl
-  planned_alike (Shown candidate) base = refl
-  planned_alike (Fresh barrier prior) base = refl
-  planned_alike (Unshown member) base = refl
-  planned_alike (Unplanned other) base = refl
+  -- what adds a candidate is planned and to be mended
+  planned_plain : (remedy : Remedy) → AddsPlain remedy → unplanned_by remedy ≡ None
+  planned_plain Nothing never = absurd never
+  planned_plain (Shown candidate) plain = refl
+  planned_plain (Fresh barrier prior) plain = refl
+  planned_plain (Unshown member) never = absurd never
+  planned_plain (Unplanned other) never = absurd never
+  planned_plain (Outdated other) never = absurd never
 
-  unsound_alike : (remedy : Remedy) (base : Candidate) → unmended_by mend.target (alike remedy base) ≡ None
-  unsound_alike Nothing base = refl
-  unsound_alike (Shown candidate) base = refl
-  unsound_alike (Fresh barrier prior) base = refl
-  unsound_alike (Unshown member) base = refl
-  unsound_alike (Unplanned other) base = refl
+  unsound_plain : (remedy : Remedy) → AddsPlain remedy → unmended_by mend.target remedy ≡ None
+  unsound_plain Nothing never = absurd never
+  unsound_plain (Shown candidate) plain = refl
+  unsound_plain (Fresh barrier prior) plain = refl
+  unsound_plain (Unshown member) never = absurd never
+  unsound_plain (Unplanned other) never = absurd never
+  unsound_plain (Outdated other) never = absurd never
 
   abbrev IsLike : MendPart → Type 0
-  IsLike part = (part.remedy ≡ mend.remedy) ⊎ ((base : Candidate) × (part.remedy ≡ alike mend.remedy base))
+  IsLike part = (part.remedy ≡ mend.remedy) ⊎ AddsPlain part.remedy
 
   part_spent : (part : MendPart) → IsLike part → unplanned_by mend.remedy ≡ None
       → unmended_by mend.target mend.remedy ≡ None → is_spent mend part ≡ true → IsSpent part.latest part.remedy
   part_spent part (inl same) planned unsound none =
       spent part.latest part.remedy (ap unplanned_by same ∙ planned) (ap (unmended_by mend.target) same ∙ unsound) none
-  part_spent part (inr like) planned unsound none =
-      spent part.latest part.remedy (ap unplanned_by like.1 ∙ planned_alike mend.remedy like.0)
-      (ap (unmended_by mend.target) like.1 ∙ unsound_alike mend.remedy like.0) none
+  part_spent part (inr plain) planned unsound none =
+      spent part.latest part.remedy (planned_plain part.remedy plain) (unsound_plain part.remedy plain) none
 
-unplanned_remedy : (remedy : Remedy) (object : ObjectId) → unplanned_by remedy ≡ Some object
-    → remedy ≡ Unplanned object
-unplanned_remedy Nothing object is = absurd cc
-unplanned_remedy (Shown candidate) object is = absurd cc
-unplanned_remedy (Fresh barrier prior) object is = absurd cc
-unplanned_remedy (Unshown member) object is = absurd cc
-unplanned_remedy (Unplanned other) object is = ap Unplanned (same_Some other object is)
+-- there is no plan, and this is why
+unplanned_cause : (mend : Mend) (parts : List MendPart) (remedy : Remedy) (why : Refusal) → mend.remedy ≡ remedy
+    → unplanned_by remedy ≡ Some why → RefusesFor mend parts why
+unplanned_cause mend parts Nothing why is given = absurd cc
+unplanned_cause mend parts (Shown candidate) why is given = absurd cc
+unplanned_cause mend parts (Fresh barrier prior) why is given = absurd cc
+unplanned_cause mend parts (Unshown member) why is given = absurd cc
+unplanned_cause mend parts (Unplanned other) why is given =
+    subst (RefusesFor mend parts) (same_Some (Needs other) why given) (inr is)
+unplanned_cause mend parts (Outdated other) why is given =
+    subst (RefusesFor mend parts) (same_Some (Stale other) why given) is
 
 -- nothing is added, and this is why
 unmended_cause : (mend : Mend) (parts : List MendPart) (remedy : Remedy) (why : Refusal) → mend.remedy ≡ remedy
@@ -175,6 +183,7 @@ unmended_cause mend parts (Fresh barrier prior) why is given = absurd cc
 unmended_cause mend parts (Unshown member) why is given =
     subst (RefusesFor mend parts) (same_Some (Needs member) why given) (inl is)
 unmended_cause mend parts (Unplanned other) why is given = absurd cc
+unmended_cause mend parts (Outdated other) why is given = absurd cc
 
 value_if : {X : Type 0} (found : Option X) → is_none found ≡ false → (value : X) × (found ≡ Some value)
 value_if None test = absurd (false≢true (sym test))
@@ -191,26 +200,34 @@ plain_found object (Some version) barrier stamp plain test = grind arith
 plain_found object None false stamp plain test = absurd (false≢true (sym test))
 plain_found object None true stamp plain test = absurd (false≢true (sym plain))
 
+copy_found : (object : ObjectId) (candidate : Candidate) (version : Option ObjState) (prior : Stamp)
+    → is_some {T = ObjectId × Stamp}
+    (cond (is_none version) (option_map (λ (it : Stamp). (object, it)) (Some prior)) None) ≡ false
+    → AddsVersion object candidate (Fresh false prior) version (option_map (copied_state object candidate) version)
+copy_found object candidate (Some before) prior test = (before, refl, refl)
+copy_found object candidate None prior test = absurd (false≢true (sym test))
+
 version_found : (mend : Mend) (object : ObjectId) (shown_latest : Stamp) (remedy : Remedy) (candidate : Candidate)
     (version : Option ObjState) → MakesCandidate mend shown_latest remedy candidate
     → is_some {T = ObjectId × Stamp}
     (cond (is_none version) (option_map (λ (it : Stamp). (object, it)) (wanted_by remedy)) None) ≡ false
-    → AddsVersion remedy version (stored_by remedy version)
+    → AddsVersion object candidate remedy version (stored_by object candidate remedy version)
 unfolding wanted_by stored_by
 version_found mend object shown_latest Nothing candidate version makes ready = absurd makes
 version_found mend object shown_latest (Unshown member) candidate version makes ready = absurd makes
 version_found mend object shown_latest (Unplanned other) candidate version makes ready = absurd makes
+version_found mend object shown_latest (Outdated other) candidate version makes ready = absurd makes
 version_found mend object shown_latest (Shown shown) candidate version makes ready =
     ((λ plain. plain_found object version shown.stamp.barrier shown.stamp plain ready), refl)
 version_found mend object shown_latest (Fresh true prior) candidate version makes ready = refl
 version_found mend object shown_latest (Fresh false prior) candidate version makes ready =
-    (plain_found object version false prior refl ready, refl)
+    copy_found object candidate version prior ready
 
 -- ---- of each object
 
 module _ (mend : Mend) where
   behind_by : (part : MendPart) (addition : Option Candidate) → part_addition mend part ≡ addition
-      → is_passed part.own addition ≡ true → IsBehind mend part
+      → is_overtaken part.own addition ≡ true → IsBehind mend part
   behind_by part None is passes = absurd (false≢true passes)
   behind_by part (Some candidate) is passes = inr (
     candidate,
@@ -220,7 +237,7 @@ module _ (mend : Mend) where
 
   behind : (part : MendPart) → is_late mend part ≡ true → IsBehind mend part
   behind part test =
-      elim (or_cases (is_below part.latest (latest part.own)) (is_passed part.own (part_addition mend part)) test) [
+      elim (or_cases (is_below part.latest (latest part.own)) (is_overtaken part.own (part_addition mend part)) test) [
         | inl later ↦ inl later
         | inr passes ↦ behind_by part (part_addition mend part) refl passes
       ]
@@ -238,15 +255,18 @@ module _ (mend : Mend) where
       (held_by part (part_addition mend part) refl both.0, all_held later both.1)
 
   abbrev accepted_as : MendPart → Candidate → Accepted
-  accepted_as part candidate =
-      record { object = part.object; candidate = candidate; state = stored_by part.remedy part.version }
+  accepted_as part candidate = record {
+    object = part.object;
+    candidate = candidate;
+    state = stored_by part.object candidate part.remedy part.version;
+  }
 
   added_part : (part : MendPart) (candidate : Candidate) → part_addition mend part ≡ Some candidate
       → is_late mend part ≡ false → is_some (missing_key part) ≡ false → has_no_room part.own ≡ false
       → IsPartAdded mend part (accepted_as part candidate)
   added_part part candidate is current ready room =
       let both =
-      or_parts (is_below part.latest (latest part.own)) (is_passed part.own (part_addition mend part)) current in
+      or_parts (is_below part.latest (latest part.own)) (is_overtaken part.own (part_addition mend part)) current in
       let makes : MakesCandidate mend part.latest part.remedy candidate =
       made mend part.latest part.remedy candidate is in
       record {
@@ -254,7 +274,7 @@ module _ (mend : Mend) where
         makes = makes;
         may = record {
           current = both.0;
-          above = not-false (is_below (latest part.own) candidate.stamp) (ap (is_passed part.own) (sym is) ∙ both.1);
+          above = not-false (is_below (latest part.own) candidate.stamp) (ap (is_overtaken part.own) (sym is) ∙ both.1);
           room = leb-false HISTORY_LIMIT (length part.own) room;
         };
         version = version_found mend part.object part.latest part.remedy candidate part.version makes ready;
@@ -311,8 +331,8 @@ module _ (mend : Mend) (parts : List MendPart) where
   pub decided_has_cause : ArePartsOf mend parts → HasCause mend parts (decide_mend mend parts)
   unfolding decide_mend mend_row_plan mend_row_held mend_row_current mend_row_sound mend_row_version mend_row_time mend_row_full
   decided_has_cause are =
-      row_by_given Fact last Needs (unplanned_by mend.remedy) _
-      (λ object is. inr (unplanned_remedy mend.remedy object is))
+      row_by_given Fact last (λ why. why) (unplanned_by mend.remedy) _
+      (λ why is. unplanned_cause mend parts mend.remedy why refl is)
       (λ planned. row_if_held Fact last (list_all (is_held_part mend) parts) (addition_of mend) _
       (λ candidate is test.
       ((candidate, made mend mend.latest mend.remedy candidate is, refl), all_held mend parts test))

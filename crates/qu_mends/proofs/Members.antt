@@ -1,5 +1,5 @@
 -- The objects that are mended with the target: they differ, and the sets show them.
-use Rattle.std.proofs.Common.{◌≡◌, ℕ, ◌+◌, ◌<◌, ◌≤◌, Bool, true, false, not, cond, List, [], ◌∷◌, map, Option, None, Some, refl, sym, ap, subst, arith, length}
+use Rattle.std.proofs.Common.{◌≡◌, ℕ, ◌+◌, ◌<◌, ◌≤◌, Bool, true, false, not, cond, List, [], ◌∷◌, map, None, Some, Result, Ok, Err, refl, sym, ap, subst, ◌∙◌, arith, length}
 use Rattle.std.specs.Prelude.{find, nat_le, option_map}
 use Rattle.std.specs.List.{AllByRecursion, list_all}
 use Rattle.std.proofs.lemmas.Bool.{and_parts, leb-true}
@@ -14,15 +14,20 @@ use Rattle.qu_history.specs.declared.sets.SetOf.{SetOf}
 use Rattle.qu_history.specs.Sets.{entries_of, latest_of}
 use Rattle.qu_class.specs.declared.class.Class.{Class}
 use Rattle.qu_class.specs.declared.class.Class.TheVariants.{Method, InlineMethod, Copy, InlineBarrier, Barrier, Needs}
+use Rattle.qu_class.specs.declared.plan.CopyPlan.{CopyPlan}
+use Rattle.qu_class.specs.declared.plan.PlanFail.{PlanFail}
+use Rattle.qu_class.specs.declared.plan.PlanFail.TheVariants as why
 use Rattle.qu_class.specs.Class.{is_latest, is_in_sets, listed_stamp, agrees, first_absent, all_agree, class_of, with_members, class_in}
+use Rattle.qu_class.specs.Copying.{plan_of}
+use Rattle.qu_class.specs.Linking.{Linking}
 use Rattle.qu_class.specs.Repairable.{object_base}
 use Rattle.qu_class.specs.Rows.{AllShown}
-use Rattle.qu_class.specs.Plan.{first_apart}
 use Rattle.qu_class.proofs.GroupRule.{inline_by, copy_in_sets}
-use Rattle.qu_class.proofs.Plans.{IsJoint, none_apart}
+use Rattle.qu_class.proofs.Copying.{IsCopied, plan_copies}
+use Rattle.qu_mends.specs.declared.course.Course.{Course}
 use Rattle.qu_mends.specs.declared.remedy.Remedy.{Remedy}
-use Rattle.qu_mends.specs.declared.remedy.Remedy.TheVariants.{Nothing, Shown, Fresh, Unshown, Unplanned}
-use Rattle.qu_mends.specs.Remedy.{whole_group, copied_group, copy_by, remedy_by, remedy_of, base_on, group_of, mended_group, member_remedy, remedies_by}
+use Rattle.qu_mends.specs.Causes.{AddsPlain}
+use Rattle.qu_mends.specs.Remedy.{alone, whole_group, shown_member, chosen_member, copied_member, copy_course, course_by, course_of, remedies_by}
 
 -- ---- they differ
 
@@ -33,39 +38,62 @@ abbrev pub DoDiffer : List (ObjectId × Remedy) → Type 0
 DoDiffer [] = Unit {0}
 DoDiffer (mended ∷ later) = AreOthers mended.0 later × DoDiffer later
 
+-- the objects of the group, each with a remedy
+abbrev pub AreOf : List (ObjectId × ℕ) → List (ObjectId × Remedy) → Type 0
+AreOf [] [] = Unit {0}
+AreOf [] (mended ∷ later) = ⊥
+AreOf (member ∷ group) [] = ⊥
+AreOf (member ∷ group) (mended ∷ later) = (mended.0 ≡ member.0) × AreOf group later
+
 at_least : (least : ℕ) (member : ObjectId × ℕ) → is_member_from least member ≡ true → least ≤ (member.0).0
 at_least least member is = leb-true least (member.0).0 (and_parts (nat_le least (member.0).0) _ is).0
 
-module _ (bounds : ℕ) (sets : List SetOf) (remedy : Remedy) where
-  members_are_others : (least : ℕ) (group : List (ObjectId × ℕ)) → are_members_from least group ≡ true
-      → (object : ObjectId) → object.0 < least → AreOthers object (map (member_remedy bounds sets remedy) group)
-  unfolding are_members_from
-  members_are_others least [] rise object below = tt
-  members_are_others least (member ∷ later) rise object below =
-      let both = and_parts (is_member_from least member) (are_members_from ((member.0).0 + 1) later) rise in
-      let from : least ≤ (member.0).0 = at_least least member both.0 in (
-        (λ same. let equal : (member.0).0 ≡ object.0 = ap (λ (it : ObjectId). it.0) same
-            in omega (arith, equal, from, below)),
-        members_are_others ((member.0).0 + 1) later both.1 object (omega (arith, from, below)),
-      )
+members_are_others : (least : ℕ) (group : List (ObjectId × ℕ)) → are_members_from least group ≡ true
+    → (object : ObjectId) → object.0 < least → (members : List (ObjectId × Remedy)) → AreOf group members
+    → AreOthers object members
+unfolding are_members_from
+members_are_others least [] rise object below [] of = tt
+members_are_others least [] rise object below (mended ∷ more) of = absurd of
+members_are_others least (member ∷ later) rise object below [] of = absurd of
+members_are_others least (member ∷ later) rise object below (mended ∷ more) of =
+    let both = and_parts (is_member_from least member) (are_members_from ((member.0).0 + 1) later) rise in
+    let from : least ≤ (member.0).0 = at_least least member both.0 in (
+      (λ same. let equal : (member.0).0 ≡ object.0 = ap (λ (it : ObjectId). it.0) (sym of.0 ∙ same)
+          in omega (arith, equal, from, below)),
+      members_are_others ((member.0).0 + 1) later both.1 object (omega (arith, from, below)) more of.1,
+    )
 
-  members_differ : (least : ℕ) (group : List (ObjectId × ℕ)) → are_members_from least group ≡ true
-      → DoDiffer (map (member_remedy bounds sets remedy) group)
-  unfolding are_members_from
-  members_differ least [] rise = tt
-  members_differ least (member ∷ later) rise =
-      let both = and_parts (is_member_from least member) (are_members_from ((member.0).0 + 1) later) rise in (
-        members_are_others ((member.0).0 + 1) later both.1 member.0 (omega arith),
-        members_differ ((member.0).0 + 1) later both.1,
-      )
+members_differ : (least : ℕ) (group : List (ObjectId × ℕ)) → are_members_from least group ≡ true
+    → (members : List (ObjectId × Remedy)) → AreOf group members → DoDiffer members
+unfolding are_members_from
+members_differ least [] rise [] of = tt
+members_differ least [] rise (mended ∷ more) of = absurd of
+members_differ least (member ∷ later) rise [] of = absurd of
+members_differ least (member ∷ later) rise (mended ∷ more) of =
+    let both = and_parts (is_member_from least member) (are_members_from ((member.0).0 + 1) later) rise in (
+      members_are_others ((member.0).0 + 1) later both.1 mended.0
+          (let equal : (mended.0).0 ≡ (member.0).0 = ap (λ (it : ObjectId). it.0) of.0 in omega (arith, equal)) more
+          of.1,
+      members_differ ((member.0).0 + 1) later both.1 more of.1,
+    )
 
-  pub remedies_differ : (target : ObjectId) (group : List (ObjectId × ℕ)) → is_group group ≡ true
-      → DoDiffer (remedies_by bounds sets target remedy group)
-  unfolding remedies_by is_group
-  remedies_differ target [] is = (tt, tt)
-  remedies_differ target (member ∷ later) is =
-      members_differ 0 (member ∷ later)
-      (and_parts (is_group_size (length (member ∷ later))) (are_members_from 0 (member ∷ later)) is).1
+-- where there is a group, the members are its objects
+abbrev pub Lists : List (ObjectId × ℕ) → List (ObjectId × Remedy) → Type 0
+Lists [] members = Unit {0}
+Lists (member ∷ later) members = AreOf (member ∷ later) members
+
+pub remedies_differ : (target : ObjectId) (course : Course) (group : List (ObjectId × ℕ)) → is_group group ≡ true
+    → Lists group course.members → DoDiffer (remedies_by target course group)
+unfolding remedies_by is_group
+remedies_differ target course [] is lists = (tt, tt)
+remedies_differ target course (member ∷ later) is lists =
+    members_differ 0 (member ∷ later)
+    (and_parts (is_group_size (length (member ∷ later))) (are_members_from 0 (member ∷ later)) is).1
+    course.members lists
+
+-- each adds a candidate, and none a barrier
+abbrev pub AllAddPlain : List (ObjectId × Remedy) → Type 0
+AllAddPlain members = AllByRecursion (λ mended. AddsPlain mended.1) members
 
 whole_by : (group : List (ObjectId × ℕ)) (test : Bool) → is_group group ≡ test → is_group (cond test group []) ≡ true
 unfolding is_group are_members_from
@@ -76,21 +104,11 @@ none_whole : is_group [] ≡ true
 unfolding is_group are_members_from
 none_whole = refl
 
-copied_whole : (group : List (ObjectId × ℕ)) (remedy : Remedy) → is_group (copied_group group remedy) ≡ true
-copied_whole group Nothing = none_whole
-copied_whole group (Shown candidate) = none_whole
-copied_whole group (Fresh barrier prior) = whole_by group (is_group group) refl
-copied_whole group (Unshown member) = none_whole
-copied_whole group (Unplanned other) = none_whole
-
-pub group_is_whole : (base : Candidate) (class : Class) (remedy : Remedy)
-    → is_group (group_of base class remedy) ≡ true
-group_is_whole base (Method candidate) remedy = none_whole
-group_is_whole base (InlineMethod candidate) remedy = whole_by candidate.group (is_group candidate.group) refl
-group_is_whole base Copy remedy = copied_whole base.group remedy
-group_is_whole base (InlineBarrier candidate) remedy = none_whole
-group_is_whole base (Barrier prior) remedy = none_whole
-group_is_whole base (Needs member) remedy = none_whole
+lists_by : (group : List (ObjectId × ℕ)) (members : List (ObjectId × Remedy)) (test : Bool) → AreOf group members
+    → Lists (cond test group []) members
+lists_by group members false of = tt
+lists_by [] members true of = tt
+lists_by (member ∷ later) members true of = of
 
 -- ---- the sets show them
 
@@ -130,49 +148,81 @@ module _ (bounds : ℕ) (sets : List SetOf) where
   unfolding class_in
   inline_joined object candidate is = joined_by (class_of bounds (entries_of object sets)) candidate is
 
-  shown_whole : (group : List (ObjectId × ℕ)) (test : Bool) → first_absent sets group ≡ None
-      → AllShown sets (cond test group [])
-  shown_whole group true none = all_in_sets sets group none
-  shown_whole group false none = tt
+  shown_by : (group : List (ObjectId × ℕ)) (test : Bool) → AllShown sets group → AllShown sets (cond test group [])
+  shown_by group true shown = shown
+  shown_by group false shown = tt
+
+  -- ---- each course
+
+  pub record IsCourse (course : Course) : Type 0 where
+    pub whole : is_group course.group ≡ true
+    pub lists : Lists course.group course.members
+    pub plain : AllAddPlain course.members
+    pub shown : AllShown sets course.group
+
+  single : (remedy : Remedy) → IsCourse (alone remedy)
+  single remedy = record { whole = none_whole; lists = tt; plain = tt; shown = tt }
+
+  shown_of : (group : List (ObjectId × ℕ)) → AreOf group (map (shown_member bounds sets) group)
+  shown_of [] = tt
+  shown_of (member ∷ later) = (refl, shown_of later)
+
+  shown_plain : (group : List (ObjectId × ℕ)) → AllAddPlain (map (shown_member bounds sets) group)
+  shown_plain [] = tt
+  shown_plain (member ∷ later) = (tt, shown_plain later)
+
+  copied_of : (joint : List (ObjectId × Candidate)) → AreOf (map chosen_member joint) (map copied_member joint)
+  copied_of [] = tt
+  copied_of (part ∷ later) = (refl, copied_of later)
+
+  copied_plain : (joint : List (ObjectId × Candidate)) → AllAddPlain (map copied_member joint)
+  copied_plain [] = tt
+  copied_plain (part ∷ later) = (refl, copied_plain later)
 
   -- what is copied is of class COPY, which the sets show
-  copies_shown : (base : Candidate) (members : List (ObjectId × ℕ)) → AllByRecursion (IsJoint bounds sets base) members
-      → AllShown sets members
-  copies_shown base [] all = tt
-  copies_shown base (member ∷ later) all =
-      (copy_in_sets bounds sets member.0 (all.0).copy, copies_shown base later all.1)
+  copies_in_sets : (link : Linking) (joint : List (ObjectId × Candidate))
+      → AllByRecursion (IsCopied bounds sets link) joint → AllShown sets (map chosen_member joint)
+  copies_in_sets link [] copied = tt
+  copies_in_sets link (part ∷ later) copied =
+      (copy_in_sets bounds sets part.0 (copied.0).copy, copies_in_sets link later copied.1)
 
-  copied_shown : (object : ObjectId) (apart : Option ObjectId)
-      → first_apart bounds sets (base_on bounds sets object) ≡ apart
-      → AllShown sets (copied_group (base_on bounds sets object).group
-      (copy_by (base_on bounds sets object).stamp apart))
-  copied_shown object (Some other) apart = tt
-  copied_shown object None none =
-      by (is_group (base_on bounds sets object).group)
-    where
-      by : (test : Bool) → AllShown sets (cond test (base_on bounds sets object).group [])
-      by true =
-          copies_shown (base_on bounds sets object) (base_on bounds sets object).group
-          (none_apart bounds sets (base_on bounds sets object) none)
-      by false = tt
+  copy_is : (link : Linking) (target : ObjectId) → class_in bounds sets target ≡ Copy
+      → (plan : Result CopyPlan PlanFail) → plan_of bounds sets link target ≡ plan → IsCourse (copy_course target plan)
+  unfolding copy_course
+  copy_is link target copy (Ok plan) is =
+      let group : List (ObjectId × ℕ) = map chosen_member plan.joint in
+      record {
+        whole = whole_by group (is_group group) refl;
+        lists = lists_by group (map copied_member plan.joint) (is_group group) (copied_of plan.joint);
+        plain = copied_plain plan.joint;
+        shown = shown_by group (is_group group)
+            (copies_in_sets link plan.joint (plan_copies bounds sets link target plan copy is));
+      }
+  copy_is link target copy (Err (why.Stale other)) is = single _
+  copy_is link target copy (Err (why.Needs other)) is = single _
+  copy_is link target copy (Err why.NoMemory) is = single _
 
-  -- the members that are mended are shown
-  group_shown_by : (object : ObjectId) (class : Class) → class_in bounds sets object ≡ class
-      → AllShown sets (group_of (base_on bounds sets object) class
-      (remedy_by (first_apart bounds sets (base_on bounds sets object)) (base_on bounds sets object) class))
-  unfolding remedy_by
-  group_shown_by object (Method candidate) is = tt
-  group_shown_by object (InlineMethod candidate) is =
-      shown_whole candidate.group (is_group candidate.group) (inline_joined object candidate is).0
-  group_shown_by object Copy is =
-      copied_shown object (first_apart bounds sets (base_on bounds sets object)) refl
-  group_shown_by object (InlineBarrier candidate) is = tt
-  group_shown_by object (Barrier prior) is = tt
-  group_shown_by object (Needs member) is = tt
+  course_is : (link : Linking) (target : ObjectId) (class : Class) → class_in bounds sets target ≡ class
+      → IsCourse (course_by bounds sets target (plan_of bounds sets link target) class)
+  unfolding course_by
+  course_is link target (Method candidate) is = single _
+  course_is link target (InlineMethod candidate) is =
+      record {
+        whole = whole_by candidate.group (is_group candidate.group) refl;
+        lists = lists_by candidate.group (map (shown_member bounds sets) candidate.group) (is_group candidate.group)
+            (shown_of candidate.group);
+        plain = shown_plain candidate.group;
+        shown = shown_by candidate.group (is_group candidate.group)
+            (all_in_sets sets candidate.group (inline_joined target candidate is).0);
+      }
+  course_is link target Copy is = copy_is link target is (plan_of bounds sets link target) refl
+  course_is link target (InlineBarrier candidate) is = single _
+  course_is link target (Barrier prior) is = single _
+  course_is link target (Needs member) is = single _
 
-  pub group_shown : (object : ObjectId) → AllShown sets (mended_group bounds sets object)
-  unfolding remedy_of
-  group_shown object = group_shown_by object (class_in bounds sets object) refl
+  pub each_course : (link : Linking) (target : ObjectId) → IsCourse (course_of bounds sets link target)
+  unfolding course_of
+  each_course link target = course_is link target (class_in bounds sets target) refl
 
 -- ---- what agrees
 
@@ -223,34 +273,3 @@ module _ (bounds : ℕ) (sets : List SetOf) where
       whole_is candidate.group (is_group candidate.group) member later group in
       subst (λ (it : List (ObjectId × ℕ)). AllByRecursion (λ one. IsShownWith bounds sets it one.0) it) whole
       (all_shown_with bounds sets candidate candidate.group (inline_joined bounds sets object candidate is).1)
-
--- ---- what is made on a group
-
-abbrev pub IsPlain : Remedy → Type 0
-IsPlain (Fresh barrier prior) = barrier ≡ false
-IsPlain _ = Unit {0}
-
--- barriers are made alone
-module _ (base : Candidate) (member : ObjectId × ℕ) (later : List (ObjectId × ℕ)) where
-  copied_plain : (apart : Option ObjectId)
-      → copied_group base.group (copy_by base.stamp apart) ≡ member ∷ later → IsPlain (copy_by base.stamp apart)
-  copied_plain None group = refl
-  copied_plain (Some other) group = tt
-
-  group_plain_by : (apart : Option ObjectId) (class : Class)
-      → group_of base class (remedy_by apart base class) ≡ member ∷ later → IsPlain (remedy_by apart base class)
-  unfolding remedy_by
-  group_plain_by apart (Method candidate) group = tt
-  group_plain_by apart (InlineMethod candidate) group = tt
-  group_plain_by apart Copy group = copied_plain apart group
-  group_plain_by apart (InlineBarrier candidate) group = tt
-  group_plain_by apart (Barrier prior) group = absurd (no_member member later group)
-  group_plain_by apart (Needs other) group = tt
-
-pub group_plain : (bounds : ℕ) (sets : List SetOf) (target : ObjectId) (member : ObjectId × ℕ)
-    (later : List (ObjectId × ℕ)) → mended_group bounds sets target ≡ member ∷ later
-    → IsPlain (remedy_of bounds sets target)
-unfolding remedy_of
-group_plain bounds sets target member later group =
-    group_plain_by (base_on bounds sets target) member later
-    (first_apart bounds sets (base_on bounds sets target)) (class_in bounds sets target) group

@@ -11,15 +11,16 @@ use Rattle.qu_history.specs.History.{latest, holds}
 use Rattle.qu_history.specs.declared.sets.SetOf.{SetOf}
 use Rattle.qu_history.specs.Sets.{entries_of, latest_of}
 use Rattle.qu_objects.specs.declared.state.ObjState.{ObjState}
+use Rattle.qu_kept.specs.Performing.{copied_state}
 use Rattle.qu_frames.specs.declared.verdict.Refusal.{Refusal}
 use Rattle.qu_frames.specs.declared.verdict.Refusal.TheVariants.{HistoryFull, Thin, Needs, Stale, NotCurrent, NotMethod, Spent, TimeSpent, UnknownObject, Sound}
 use Rattle.qu_mends.specs.declared.remedy.Remedy.{Remedy}
-use Rattle.qu_mends.specs.declared.remedy.Remedy.TheVariants.{Nothing, Shown, Fresh, Unshown, Unplanned}
+use Rattle.qu_mends.specs.declared.remedy.Remedy.TheVariants.{Nothing, Shown, Fresh, Unshown, Unplanned, Outdated}
 use Rattle.qu_mends.specs.declared.mend.Mend.{Mend}
 use Rattle.qu_mends.specs.declared.mending.Mending.{Mending}
 use Rattle.qu_mends.specs.declared.mending.Mending.TheVariants.{Mends, Holds, Refuses, Waits}
 use Rattle.qu_mends.specs.declared.accepted.Accepted.{Accepted}
-use Rattle.qu_mends.specs.Remedy.{MendPart, alike, fresh_repair, missing_key}
+use Rattle.qu_mends.specs.Remedy.{MendPart, fresh_repair, missing_key}
 use Rattle.qu_mends.specs.Table.{has_no_room}
 use Rattle.qu_mends.specs.Mending.{is_late, is_spent, missing_in}
 
@@ -40,12 +41,15 @@ MakesCandidate mend latest (Fresh barrier prior) candidate = (candidate ≡ fres
     × (latest.time < LAST_TIME)
 MakesCandidate mend latest _ candidate = ⊥
 
--- what is added has a version, if the replica is to have one: that which was found under the wanted stamp
-abbrev pub AddsVersion : Remedy → Option ObjState → Option ObjState → Type 0
-AddsVersion (Shown candidate) version stored = (candidate.stamp.barrier ≡ false → IsSome version) × (stored ≡ None)
-AddsVersion (Fresh true prior) version stored = stored ≡ None
-AddsVersion (Fresh false prior) version stored = IsSome version × (stored ≡ version)
-AddsVersion _ version stored = ⊥
+-- what is added to the object has a version, if the replica is to have one: that which was found under the wanted
+-- stamp, or a copy's, which is made of it
+abbrev pub AddsVersion : ObjectId → Candidate → Remedy → Option ObjState → Option ObjState → Type 0
+AddsVersion object candidate (Shown shown) version stored =
+    (shown.stamp.barrier ≡ false → IsSome version) × (stored ≡ None)
+AddsVersion object candidate (Fresh true prior) version stored = stored ≡ None
+AddsVersion object candidate (Fresh false prior) version stored =
+    (before : ObjState) × (version ≡ Some before) × (stored ≡ Some (copied_state object candidate before))
+AddsVersion object candidate _ version stored = ⊥
 
 -- the replica's latest candidate is above the sets, or what would be added is not above it
 abbrev pub IsBehind : Mend → MendPart → Type 0
@@ -60,11 +64,15 @@ IsSpent latest (Shown shown) = LAST_TIME < shown.stamp.time
 IsSpent latest (Fresh barrier prior) = LAST_TIME ≤ latest.time
 IsSpent latest _ = ⊥
 
--- the objects are mended as the target is
+-- the remedy adds a candidate, and makes no barrier
+abbrev pub AddsPlain : Remedy → Type 0
+AddsPlain (Shown candidate) = Unit {0}
+AddsPlain (Fresh barrier prior) = barrier ≡ false
+AddsPlain _ = ⊥
+
+-- the target is mended alone, or a candidate is added to each object
 abbrev pub ArePartsOf : Mend → List MendPart → Type 0
-ArePartsOf mend parts =
-    AllByRecursion (λ part. (part.remedy ≡ mend.remedy) ⊎ ((base : Candidate) × (part.remedy ≡ alike mend.remedy base)))
-    parts
+ArePartsOf mend parts = AllByRecursion (λ part. (part.remedy ≡ mend.remedy) ⊎ AddsPlain part.remedy) parts
 
 -- no other refusal answers a request to mend an object that is known, with a quorum of histories. The first object is
 -- named to which it applies.
@@ -82,7 +90,7 @@ RefusesFor mend parts (HistoryFull object) =
     × (HISTORY_LIMIT ≤ length part.own)
 RefusesFor mend parts (Thin object) = ⊥
 RefusesFor mend parts (Needs object) = (mend.remedy ≡ Unshown object) ⊎ (mend.remedy ≡ Unplanned object)
-RefusesFor mend parts (Stale object) = ⊥
+RefusesFor mend parts (Stale object) = mend.remedy ≡ Outdated object
 RefusesFor mend parts (NotMethod object class) = ⊥
 RefusesFor mend parts (Spent object number) = ⊥
 RefusesFor mend parts (UnknownObject object) = ⊥
@@ -92,7 +100,7 @@ pub record IsPartAdded (mend : Mend) (part : MendPart) (accepted : Accepted) : T
   pub object : accepted.object ≡ part.object
   pub makes : MakesCandidate mend part.latest part.remedy accepted.candidate
   pub may : MayBeAdded part accepted.candidate
-  pub version : AddsVersion part.remedy part.version accepted.state
+  pub version : AddsVersion part.object accepted.candidate part.remedy part.version accepted.state
 
 -- on each object
 abbrev pub ArePartsAdded : Mend → List MendPart → List Accepted → Type 0

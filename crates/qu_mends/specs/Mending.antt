@@ -7,23 +7,24 @@ use Rattle.qu_stamp.specs.declared.candidate.Candidate.{Candidate}
 use Rattle.qu_stamp.specs.Stamp.{is_below}
 use Rattle.qu_history.specs.History.{latest, holds}
 use Rattle.qu_frames.specs.declared.verdict.Refusal.{Refusal}
-use Rattle.qu_frames.specs.declared.verdict.Refusal.TheVariants.{Needs, NotCurrent, Sound, TimeSpent, HistoryFull}
+use Rattle.qu_frames.specs.declared.verdict.Refusal.TheVariants.{Needs, Stale, NotCurrent, Sound, TimeSpent, HistoryFull}
 use Rattle.qu_mends.specs.declared.accepted.Accepted.{Accepted}
 use Rattle.qu_mends.specs.declared.remedy.Remedy.{Remedy}
-use Rattle.qu_mends.specs.declared.remedy.Remedy.TheVariants.{Nothing, Unshown, Unplanned}
+use Rattle.qu_mends.specs.declared.remedy.Remedy.TheVariants.{Nothing, Unshown, Unplanned, Outdated}
 use Rattle.qu_mends.specs.declared.mend.Mend.{Mend}
 use Rattle.qu_mends.specs.declared.mending.Mending.{Mending}
 use Rattle.qu_mends.specs.declared.mending.Mending.TheVariants.{Mends, Holds, Refuses, Waits}
 use Rattle.qu_mends.specs.Table.{first_given, has_no_room}
 use Rattle.qu_mends.specs.Remedy.{MendPart, addition_of, part_addition, missing_key, stored_by}
 
--- there is no plan of the copy before more is known of an object
-abbrev pub unplanned_by : Remedy → Option ObjectId
-unplanned_by (Unplanned object) = Some object
+-- there is no plan of the copy before more is known of an object, or of the target
+abbrev pub unplanned_by : Remedy → Option Refusal
+unplanned_by (Unplanned object) = Some (Needs object)
+unplanned_by (Outdated object) = Some (Stale object)
 unplanned_by _ = None
 
 unfoldable pub mend_row_plan : Mend → Option Mending
-mend_row_plan mend = option_map (λ object. Refuses (Needs object)) (unplanned_by mend.remedy)
+mend_row_plan mend = option_map (λ why. Refuses why) (unplanned_by mend.remedy)
 
 -- what would be added is held already
 abbrev pub is_held_in : List Candidate → Option Candidate → Bool
@@ -40,13 +41,13 @@ mend_row_held mend parts =
     else None
 
 -- what would be added is not above what the replica has
-abbrev pub is_passed : List Candidate → Option Candidate → Bool
-is_passed own None = false
-is_passed own (Some candidate) = not (is_below (latest own) candidate.stamp)
+abbrev pub is_overtaken : List Candidate → Option Candidate → Bool
+is_overtaken own None = false
+is_overtaken own (Some candidate) = not (is_below (latest own) candidate.stamp)
 
 -- the replica has a later candidate than the sets show, or than what would be added
 abbrev pub is_late : Mend → MendPart → Bool
-is_late mend part = is_below part.latest (latest part.own) || is_passed part.own (part_addition mend part)
+is_late mend part = is_below part.latest (latest part.own) || is_overtaken part.own (part_addition mend part)
 
 unfoldable pub mend_row_current : Mend → List MendPart → Option Mending
 mend_row_current mend parts =
@@ -85,7 +86,11 @@ mend_row_full parts =
 abbrev pub accepted_part : Mend → MendPart → Option Accepted
 accepted_part mend part =
     option_map (λ (candidate : Candidate).
-    record { object = part.object; candidate = candidate; state = stored_by part.remedy part.version })
+    record {
+      object = part.object;
+      candidate = candidate;
+      state = stored_by part.object candidate part.remedy part.version;
+    })
     (part_addition mend part)
 
 abbrev pub accepted_parts : Mend → List MendPart → List Accepted

@@ -1,5 +1,5 @@
 -- What is added to the history of an object that is mended, by its class (Query/Update: repair, inline repair).
-use Rattle.std.specs.Prelude.{[], ◌∷◌, ℕ, Bool, true, false, ◌+◌, ◌≡◌, ◌≤◌, nat_le, nat_lt, if◌then◌else◌, List, map, Option, None, Some, is_none, option_map, IsSome}
+use Rattle.std.specs.Prelude.{[], ◌∷◌, ℕ, Bool, true, false, ◌+◌, ◌==◌, ◌≡◌, ◌≤◌, nat_le, nat_lt, if◌then◌else◌, List, find, map, Option, None, Some, Result, Ok, Err, is_none, option_map, IsSome}
 use Rattle.std.specs.List.{list_all}
 use Rattle.qu_base.specs.declared.party.ClientId.{ClientId}
 use Rattle.qu_base.specs.declared.party.Digest.{Digest}
@@ -13,55 +13,85 @@ use Rattle.qu_history.specs.declared.sets.SetOf.{SetOf}
 use Rattle.qu_history.specs.History.{ObjectHistory}
 use Rattle.qu_history.specs.Sets.{entries_of, order_of, latest_of, method_at}
 use Rattle.qu_objects.specs.declared.state.ObjState.{ObjState}
+use Rattle.qu_kept.specs.Performing.{copied_state}
 use Rattle.qu_class.specs.declared.class.Class.{Class}
 use Rattle.qu_class.specs.declared.class.Class.TheVariants.{Method, InlineMethod, Copy, InlineBarrier, Barrier, Needs}
+use Rattle.qu_class.specs.declared.plan.CopyPlan.{CopyPlan}
+use Rattle.qu_class.specs.declared.plan.PlanFail.{PlanFail}
+use Rattle.qu_class.specs.declared.plan.PlanFail.TheVariants as why
 use Rattle.qu_class.specs.Class.{class_in}
-use Rattle.qu_class.specs.Plan.{first_apart}
+use Rattle.qu_class.specs.Copying.{plan_of}
+use Rattle.qu_class.specs.Linking.{Linking}
 use Rattle.qu_class.specs.Repairable.{object_base}
-use Rattle.qu_class.specs.Rows.{IsGreatestOfKind}
+use Rattle.qu_class.specs.Rows.{MayBeRepaired, IsGreatestOfKind}
+use Rattle.qu_mends.specs.declared.course.Course.{Course}
 use Rattle.qu_mends.specs.declared.remedy.Remedy.{Remedy}
-use Rattle.qu_mends.specs.declared.remedy.Remedy.TheVariants.{Nothing, Shown, Fresh, Unshown, Unplanned}
+use Rattle.qu_mends.specs.declared.remedy.Remedy.TheVariants.{Nothing, Shown, Fresh, Unshown, Unplanned, Outdated}
 use Rattle.qu_mends.specs.declared.mend.Mend.{Mend}
 
--- a copy is of the object candidate, which has this stamp, if no object of its group is apart
-abbrev pub copy_by : Stamp → Option ObjectId → Remedy
-copy_by base None = Fresh false base
-copy_by base (Some other) = Unplanned other
-
--- of an object with this object candidate, whose group may have an object that is not copied with it
-unfoldable pub remedy_by : Option ObjectId → Candidate → Class → Remedy
-remedy_by apart base (Method candidate) = Nothing
-remedy_by apart base (InlineMethod candidate) = Shown candidate
-remedy_by apart base Copy = copy_by base.stamp apart
-remedy_by apart base (InlineBarrier candidate) = Shown candidate
-remedy_by apart base (Barrier prior) = Fresh true prior
-remedy_by apart base (Needs member) = Unshown member
+-- what mends an object, the group whose objects are mended with it, and their remedies, where there is such a group
+abbrev pub alone : Remedy → Course
+alone remedy = record { remedy = remedy; group = []; members = [] }
 
 abbrev pub base_on : ℕ → List SetOf → ObjectId → Candidate
 base_on bounds sets object = object_base bounds (entries_of object sets)
-
-unfoldable pub remedy_of : ℕ → List SetOf → ObjectId → Remedy
-remedy_of bounds sets object =
-    remedy_by (first_apart bounds sets (base_on bounds sets object)) (base_on bounds sets object)
-    (class_in bounds sets object)
 
 -- the group, as each candidate has one that is well formed
 abbrev pub whole_group : List (ObjectId × ℕ) → List (ObjectId × ℕ)
 whole_group group = if is_group group then group else []
 
-abbrev pub copied_group : List (ObjectId × ℕ) → Remedy → List (ObjectId × ℕ)
-copied_group group (Fresh barrier prior) = whole_group group
-copied_group group _ = []
+-- the object candidate of a member is added as it is
+abbrev pub shown_member : ℕ → List SetOf → ObjectId × ℕ → ObjectId × Remedy
+shown_member bounds sets member = (member.0, Shown (base_on bounds sets member.0))
 
--- what is added as it is, without barrier, is added with all members of its group, and so is what is copied
-abbrev pub group_of : Candidate → Class → Remedy → List (ObjectId × ℕ)
-group_of base (InlineMethod candidate) remedy = whole_group candidate.group
-group_of base Copy remedy = copied_group base.group remedy
-group_of base _ remedy = []
+-- what is added as it is, without barrier, is added with all members of its group
+abbrev pub inline_course : ℕ → List SetOf → Candidate → Course
+inline_course bounds sets candidate =
+    record {
+      remedy = Shown candidate;
+      group = whole_group candidate.group;
+      members = map (shown_member bounds sets) candidate.group;
+    }
 
-abbrev pub mended_group : ℕ → List SetOf → ObjectId → List (ObjectId × ℕ)
-mended_group bounds sets target =
-    group_of (base_on bounds sets target) (class_in bounds sets target) (remedy_of bounds sets target)
+-- the candidate that is copied on an object, as the plan tells
+abbrev pub copied_at : ObjectId → List (ObjectId × Candidate) → Option Candidate
+copied_at object joint = option_map (λ part. part.1) (find (λ part. (part.0).0 == object.0) joint)
+
+-- a plan copies its target
+abbrev pub copy_of : ObjectId → Option Candidate → Remedy
+copy_of target (Some chosen) = Fresh false chosen.stamp
+copy_of target None = Unplanned target
+
+abbrev pub chosen_member : ObjectId × Candidate → ObjectId × ℕ
+chosen_member part = (part.0, part.1.stamp.time)
+
+abbrev pub copied_member : ObjectId × Candidate → ObjectId × Remedy
+copied_member part = (part.0, Fresh false part.1.stamp)
+
+-- what is copied is copied on all objects of the plan
+unfoldable pub copy_course : ObjectId → Result CopyPlan PlanFail → Course
+copy_course target (Ok plan) =
+    record {
+      remedy = copy_of target (copied_at target plan.joint);
+      group = whole_group (map chosen_member plan.joint);
+      members = map copied_member plan.joint;
+    }
+copy_course target (Err (why.Stale other)) = alone (Outdated other)
+copy_course target (Err (why.Needs other)) = alone (Unplanned other)
+copy_course target (Err why.NoMemory) = alone (Unplanned target)
+
+-- by the class of the object, and by the plan, if it is to be copied
+unfoldable pub course_by : ℕ → List SetOf → ObjectId → Result CopyPlan PlanFail → Class → Course
+course_by bounds sets target plan (Method candidate) = alone Nothing
+course_by bounds sets target plan (InlineMethod candidate) = inline_course bounds sets candidate
+course_by bounds sets target plan Copy = copy_course target plan
+course_by bounds sets target plan (InlineBarrier candidate) = alone (Shown candidate)
+course_by bounds sets target plan (Barrier prior) = alone (Fresh true prior)
+course_by bounds sets target plan (Needs member) = alone (Unshown member)
+
+unfoldable pub course_of : ℕ → List SetOf → Linking → ObjectId → Course
+course_of bounds sets link target =
+    course_by bounds sets target (plan_of bounds sets link target) (class_in bounds sets target)
 
 -- the object has a time after the latest that the sets show of it
 abbrev pub has_time : List SetOf → ObjectId × ℕ → Bool
@@ -75,34 +105,26 @@ fresh_member sets member = (member.0, (latest_of (entries_of member.0 sets)).tim
 abbrev pub made_group : List SetOf → List (ObjectId × ℕ) → List (ObjectId × ℕ)
 made_group sets group = if list_all (has_time sets) group then map (fresh_member sets) group else []
 
--- a request to mend an object, with what its culled sets say of it
-abbrev pub mend_of : ℕ → List SetOf → Digest → ObjectId → ClientId → Mend
-mend_of bounds sets set target client =
+-- the objects that are mended: those of the group, which lists the target, or the target alone
+unfoldable pub remedies_by : ObjectId → Course → List (ObjectId × ℕ) → List (ObjectId × Remedy)
+remedies_by target course [] = (target, course.remedy) ∷ []
+remedies_by target course (member ∷ later) = course.members
+
+-- a request to mend an object by this course, with what its culled sets say of it
+abbrev pub mend_by : List SetOf → Digest → ObjectId → ClientId → Course → Mend
+mend_by sets set target client course =
     record {
       target = target;
       client = client;
       set = set;
       latest = latest_of (entries_of target sets);
-      remedy = remedy_of bounds sets target;
-      group = mended_group bounds sets target;
-      made = made_group sets (mended_group bounds sets target);
+      remedy = course.remedy;
+      remedies = remedies_by target course course.group;
+      made = made_group sets course.group;
     }
 
--- the object candidate of a member is copied, where that of the target is, and else added as it is
-abbrev pub alike : Remedy → Candidate → Remedy
-alike (Fresh barrier prior) base = Fresh barrier base.stamp
-alike _ base = Shown base
-
-abbrev pub member_remedy : ℕ → List SetOf → Remedy → ObjectId × ℕ → ObjectId × Remedy
-member_remedy bounds sets remedy member = (member.0, alike remedy (base_on bounds sets member.0))
-
--- the objects that are mended: those of the group, which lists the target, or the target alone
-unfoldable pub remedies_by : ℕ → List SetOf → ObjectId → Remedy → List (ObjectId × ℕ) → List (ObjectId × Remedy)
-remedies_by bounds sets target remedy [] = (target, remedy) ∷ []
-remedies_by bounds sets target remedy (member ∷ later) = map (member_remedy bounds sets remedy) (member ∷ later)
-
-abbrev pub remedies_of : ℕ → List SetOf → Mend → List (ObjectId × Remedy)
-remedies_of bounds sets mend = remedies_by bounds sets mend.target mend.remedy mend.group
+abbrev pub mend_of : ℕ → List SetOf → Linking → Digest → ObjectId → ClientId → Mend
+mend_of bounds sets link set target client = mend_by sets set target client (course_of bounds sets link target)
 
 -- one of them, with the latest stamp that the sets show of it, and with the candidates and the wanted version that the
 -- replica has
@@ -157,16 +179,19 @@ abbrev pub missing_key : MendPart → Option (ObjectId × Stamp)
 missing_key part =
     if is_none part.version then option_map (λ (stamp : Stamp). (part.object, stamp)) (wanted_by part.remedy) else None
 
--- of the version that was found, what is stored under the new stamp: a copy's; that of a shown candidate stands under
--- its own stamp already
-unfoldable pub stored_by : Remedy → Option ObjState → Option ObjState
-stored_by (Fresh false prior) version = version
-stored_by _ version = None
+-- of the version that was found, what is stored with the candidate that is added to the object: a copy's; that of a
+-- shown candidate stands under its own stamp already
+unfoldable pub stored_by : ObjectId → Candidate → Remedy → Option ObjState → Option ObjState
+stored_by object candidate (Fresh false prior) version = option_map (copied_state object candidate) version
+stored_by object candidate _ version = None
 
--- what is sound is of class METHOD; what is added is shown by as many as may repair, or rests upon the object candidate
+-- what is sound is of class METHOD; what is added is shown by as many as may repair, a barrier rests upon the object
+-- candidate, and a copy upon one that as many show
 abbrev pub IsGrounded : ℕ → List ObjectHistory → Remedy → Type 0
 IsGrounded bounds entries Nothing = IsSome (method_at bounds entries)
 IsGrounded bounds entries (Shown candidate) = repair bounds ≤ order_of candidate entries
-IsGrounded bounds entries (Fresh barrier prior) =
+IsGrounded bounds entries (Fresh true prior) =
     (base : Candidate) × IsGreatestOfKind bounds entries false base × (base.stamp ≡ prior)
+IsGrounded bounds entries (Fresh false prior) =
+    (chosen : Candidate) × MayBeRepaired bounds entries false chosen × (chosen.stamp ≡ prior)
 IsGrounded bounds entries _ = Unit {0}

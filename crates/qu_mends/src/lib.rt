@@ -3,6 +3,7 @@
 #![tactic(auto)]
 
 mod accepted;
+mod course;
 mod mend;
 mod mending;
 mod part;

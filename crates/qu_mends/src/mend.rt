@@ -4,21 +4,24 @@ ghost use Rattle.std.specs.Option.{option_copied};
 ghost use Rattle.qu_base.specs.Bounds.{quorum};
 ghost use Rattle.qu_history.specs.Sets.{entries_of, latest_of};
 ghost use Rattle.qu_mends.specs.Table.{has_no_room};
-ghost use Rattle.qu_mends.specs.Remedy.{mend_of, group_of, whole_group, has_time, fresh_member, made_group, remedies_of, member_remedy, addition_by, missing_key, stored_by, IsGrounded};
+ghost use Rattle.qu_class.specs.Linking.{linking};
+ghost use Rattle.qu_mends.specs.Remedy.{mend_of, has_time, fresh_member, made_group, addition_by, missing_key, stored_by, IsGrounded};
 ghost use Rattle.qu_mends.specs.Causes.{HasTime, ArePartsOf, HasCause};
-ghost use Rattle.qu_mends.specs.Mending.{is_held_part, is_passed, is_late, is_spent, missing_in, accepted_part, accepted_parts, mend_row_plan, mend_row_held, mend_row_current, mend_row_sound, mend_row_version, mend_row_time, mend_row_full, mend_row_mended, decide_mend};
+ghost use Rattle.qu_mends.specs.Mending.{is_held_part, is_overtaken, is_late, is_spent, missing_in, accepted_part, accepted_parts, mend_row_plan, mend_row_held, mend_row_current, mend_row_sound, mend_row_version, mend_row_time, mend_row_full, mend_row_mended, decide_mend};
 
-use super::{Accepted, Mending, Part, Remedy, Seen};
+use super::course::Course;
+use super::{Accepted, Mending, Part, Remedy};
 use qu_base::{Bounds, ClientId, Digest, List, NoMemory, ObjectId};
-use qu_class::{Class, object_base};
+use qu_class::Fact;
 use qu_frames::Refusal;
 use qu_history::Sets;
+use qu_kept::copied;
 use qu_objects::ObjState;
 use qu_stamp::{Candidate, Group, LAST_TIME, Stamp};
 use std::alloc::Global;
 
 /// A request to mend an object, with what its culled sets say of it.
-#[derive(Clone, Copy, Debug, PartialEq, Eq)]
+#[derive(Debug, Drop)]
 pub struct Mend {
     pub target: ObjectId,
     /// Who asks for it.
@@ -29,18 +32,17 @@ pub struct Mend {
     pub latest: Stamp,
     /// What mends the target, by its class.
     pub remedy: Remedy,
-    /// The objects that are mended with it, the target among them, each with the time of what is shown there; none
-    /// where it is mended alone.
-    pub group: Group,
-    /// The same objects, each with the time of what is made there; none where a time would be after the last.
+    /// The objects that are mended, the target or those of a group, each with what mends it.
+    pub remedies: List<(ObjectId, Remedy)>,
+    /// The group of what is made on them; none where the target is mended alone, or a time would be after the last.
     pub made: Group,
 }
 
 // The replica's table for a request to mend an object: its rows in the order in which they are tried, below the order
 // itself. Before them stand that all objects are known and that each has a quorum of histories.
 impl Mend {
-    /// The request with these culled sets, which have this digest and a quorum of histories of the target.
-    #[tactic(auto, unfolding(crate::specs::Remedy::remedy_of))]
+    /// The request with these culled sets, which have this digest and a quorum of histories of the target. The facts
+    /// tell of the evidence, if the target is to be copied.
     pub fn of(
         alloc: Global,
         sets: &Sets,
@@ -48,39 +50,25 @@ impl Mend {
         target: ObjectId,
         client: ClientId,
         bounds: &Bounds,
+        facts: &[Fact],
     ) -> Result<Mend, NoMemory>
         requires quorum { quorum bounds.now ≤ length (entries_of target sets.now) }
-        ensures value { IfOk result (λ mend. mend ≡ mend_of bounds.now sets.now set target client) }
+        ensures value { IfOk result
+            (λ mend. mend ≡ mend_of bounds.now sets.now (linking facts.now) set target client) }
         ensures grounds { IfOk result (λ mend. IsGrounded bounds.now (entries_of target sets.now) mend.remedy) }
     {
-        let seen = Seen::of(sets, target, bounds);
-        let remedy = Remedy::of(sets, &seen, bounds);
-        let group = group_of(&seen, &remedy);
+        let course = Course::of(alloc, sets, target, bounds, facts)?;
+        let remedy = course.remedy;
+        let made = made_group(alloc, sets, &course.group)?;
         Ok(Mend {
             target,
             client,
             set,
-            latest: seen.latest,
+            latest: latest_of(sets, target),
             remedy,
-            group,
-            made: made_group(alloc, sets, &group)?,
+            remedies: course.remedies(alloc, target)?,
+            made,
         })
-    }
-
-    /// The objects that are mended, each with what mends it: those of the group, or the target.
-    #[tactic(auto, unfolding(crate::specs::Remedy::remedies_by))]
-    pub fn remedies(
-        &self,
-        alloc: Global,
-        sets: &Sets,
-        bounds: &Bounds,
-    ) -> Result<List<(ObjectId, Remedy)>, NoMemory>
-        ensures { IfOk result (λ remedies. remedies ≡ remedies_of bounds.now sets.now self.now) }
-    {
-        match self.group.pairs() {
-            [] => List::one(alloc, (self.target, self.remedy)),
-            members => member_remedies(alloc, sets, &self.remedy, members, bounds),
-        }
     }
 
     /// What a replica makes of it that has this of the objects that are mended.
@@ -130,6 +118,7 @@ impl Mend {
     {
         match self.remedy {
             Remedy::Unplanned(object) => Some(Mending::Refuses(Refusal::Needs(object))),
+            Remedy::Outdated(object) => Some(Mending::Refuses(Refusal::Stale(object))),
             _ => None,
         }
     }
@@ -184,7 +173,7 @@ impl Mend {
         ensures { result ≡ is_late self.now part.now }
     {
         part.latest.is_below(&part.own_latest())
-            || is_passed(part, self.addition(&part.latest, &part.remedy))
+            || is_overtaken(part, self.addition(&part.latest, &part.remedy))
     }
 
     /// Refuses where there is nothing to mend, or the sets have to show an object more.
@@ -251,7 +240,7 @@ impl Mend {
             Some(candidate) => Ok(Some(Accepted {
                 object: part.object,
                 candidate,
-                state: stored(alloc, part)?,
+                state: stored(alloc, part, &candidate)?,
             })),
             None => Ok(None),
         }
@@ -290,27 +279,6 @@ impl Mend {
             prior,
             group: self.made,
         })
-    }
-}
-
-/// What is added as it is, without barrier, is added with all members of its group, and so is what is copied.
-fn group_of(seen: &Seen, remedy: &Remedy) -> Group
-    ensures { result ≡ group_of seen.now.base seen.now.class remedy.now }
-{
-    match (&seen.class, remedy) {
-        (Class::InlineMethod(candidate), _) => whole_group(&candidate.group),
-        (Class::Copy, Remedy::Fresh { .. }) => whole_group(&seen.base.group),
-        _ => Group::none(),
-    }
-}
-
-/// The group, which is well formed by its type.
-fn whole_group(group: &Group) -> Group
-    ensures { result ≡ whole_group group.now }
-{
-    match group.pairs() {
-        [] => Group::none(),
-        _ => *group,
     }
 }
 
@@ -362,23 +330,6 @@ fn fresh_members(
     Ok(fresh)
 }
 
-/// The members, each mended as the target is, upon its object candidate.
-fn member_remedies(
-    alloc: Global,
-    sets: &Sets,
-    remedy: &Remedy,
-    members: &[(ObjectId, u64)],
-    bounds: &Bounds,
-) -> Result<List<(ObjectId, Remedy)>, NoMemory>
-    ensures { IfOk result (λ remedies. remedies ≡ map (member_remedy bounds.now sets.now remedy.now) members.now) }
-{
-    let mut remedies = List::new(alloc);
-    for member in members {
-        remedies.push((member.0, remedy.alike(object_base(sets, member.0, bounds))))?;
-    }
-    Ok(remedies)
-}
-
 /// Waits where versions are missing upon which the mend rests.
 #[tactic(auto, unfolding(crate::specs::Mending::mend_row_version))]
 fn row_version(alloc: Global, parts: &[Part<'_>]) -> Result<Option<Mending>, NoMemory>
@@ -427,20 +378,27 @@ fn first_full<'s, 'p>(parts: &'s [Part<'p>]) -> Option<&'s Part<'p>>
     parts.iter().find(|part| part.is_full())
 }
 
-/// What is stored under the stamp of what is added: a copy of the version that is copied.
+/// What is stored with the candidate that is added: a copy's version.
 #[tactic(auto, unfolding(crate::specs::Remedy::stored_by))]
-fn stored(alloc: Global, part: &Part<'_>) -> Result<Option<ObjState>, NoMemory>
-    ensures { IfOk result (λ stored. stored ≡ stored_by part.now.remedy part.now.version) }
+fn stored(
+    alloc: Global,
+    part: &Part<'_>,
+    candidate: &Candidate,
+) -> Result<Option<ObjState>, NoMemory>
+    ensures { IfOk result (λ stored. stored
+        ≡ stored_by part.now.object candidate.now part.now.remedy part.now.version) }
 {
     match (&part.remedy, part.version) {
-        (Remedy::Fresh { barrier: false, .. }, Some(version)) => Ok(Some(version.copy(alloc)?)),
+        (Remedy::Fresh { barrier: false, .. }, Some(version)) => {
+            Ok(Some(copied(alloc, version, part.object, candidate)?))
+        }
         _ => Ok(None),
     }
 }
 
 /// Whether what would be added is not above what is held.
-fn is_passed(part: &Part<'_>, addition: Option<Candidate>) -> bool
-    ensures { result ≡ is_passed part.now.own addition }
+fn is_overtaken(part: &Part<'_>, addition: Option<Candidate>) -> bool
+    ensures { result ≡ is_overtaken part.now.own addition }
 {
     match addition {
         Some(candidate) => !part.own_latest().is_below(&candidate.stamp),

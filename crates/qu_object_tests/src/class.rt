@@ -101,7 +101,7 @@ fn is_planned(alloc: Global, sets: &Sets) -> Result<bool, Fail> {
     let Class::Copy = classify(sets, OBJECT, &bounds) else {
         return Ok(false);
     };
-    let plan = plan_copy(alloc, sets, OBJECT, &bounds)?;
+    let plan = plan_copy(alloc, sets, OBJECT, &bounds, &[])?;
     Ok(plan.joint.as_slice() == [(OBJECT, update_by(1))].as_slice())
 }
 

@@ -23,4 +23,10 @@ mod random_class;
 #[cfg(test)]
 mod random_members;
 #[cfg(test)]
+mod random_sets;
+#[cfg(test)]
+mod slow_class;
+#[cfg(test)]
+mod slow_plan;
+#[cfg(test)]
 mod versions;

@@ -2,8 +2,9 @@
 
 use super::facts::all_hold;
 use qu_base::{Bounds, ClientId, Digest, List, ObjectId, ReplicaId};
-use qu_class::{Class, PlanFail, classify, plan_copy};
+use qu_class::{Class, Fact, PlanFail, classify, plan_copy};
 use qu_history::{History, Sealed, SetOf, Sets};
+use qu_objects::Link;
 use qu_stamp::{Candidate, Group, Stamp};
 use qu_testing::holds;
 use std::alloc::Global;
@@ -127,36 +128,38 @@ fn method_asks_for_no_member(rt: HostRuntime) -> Result<(), Fail> {
     holds(class == Class::Method(joint()), "five hold it")
 }
 
-/// Sets of the middle object alone, with a barrier that five hold above this candidate, which three hold.
-fn barred(alloc: Global, candidate: Candidate) -> Result<Sets, Fail> {
+/// The middle object, with a barrier that five hold above this candidate, which three hold.
+fn barred_set(alloc: Global, candidate: &Candidate) -> Result<SetOf, Fail> {
     let mut entries = List::new(alloc);
     for replica in 0..5 {
         let mut history = History::opening(alloc, OWN, ReplicaId(replica))?;
         if replica < 3 {
-            history.add(candidate)?;
+            history.add(*candidate)?;
         }
         history.add(barrier())?;
         let macs = List::new(alloc);
         entries.push(Sealed { history, macs })?;
     }
-    let sets = List::one(
-        alloc,
-        SetOf {
-            object: OWN,
-            entries,
-        },
-    )?;
+    Ok(SetOf {
+        object: OWN,
+        entries,
+    })
+}
+
+/// Sets of it alone.
+fn barred(alloc: Global, candidate: &Candidate) -> Result<Sets, Fail> {
+    let sets = List::one(alloc, barred_set(alloc, candidate)?)?;
     Ok(Sets::new(sets).ok_or("no sets")?)
 }
 
 /// What the plan needs, where the sets are of class COPY.
 fn needed(alloc: Global, candidate: Candidate) -> Result<Option<ObjectId>, Fail> {
-    let sets = barred(alloc, candidate)?;
+    let sets = barred(alloc, &candidate)?;
     let bounds = Bounds::new(1)?;
     let Class::Copy = classify(&sets, OWN, &bounds) else {
         return Ok(None);
     };
-    Ok(match plan_copy(alloc, &sets, OWN, &bounds) {
+    Ok(match plan_copy(alloc, &sets, OWN, &bounds, &[]) {
         Err(PlanFail::Needs(object)) => Some(object),
         _ => None,
     })
@@ -169,5 +172,90 @@ fn a_plan_needs_the_lowest_other_member(rt: HostRuntime) -> Result<(), Fail> {
         (needed(alloc, joint())? == Some(LOW), "the lower one"),
         (needed(alloc, other())? == Some(HIGH), "the upper one"),
         (needed(alloc, with_group(&[]))?.is_none(), "it is alone"),
+    ])
+}
+
+/// The candidate upon which the upper object goes on alone.
+fn later() -> Candidate {
+    Candidate {
+        stamp: stamp(3, false),
+        prior: other().stamp,
+        group: Group::none(),
+    }
+}
+
+/// What a plan says of the middle object.
+#[derive(Clone, Copy, PartialEq, Eq)]
+enum Said {
+    Copies(Candidate),
+    Refuses(PlanFail),
+    Nothing,
+}
+
+/// The plan of the middle object, whose candidate has a member on the upper one, where this version of the upper one is
+/// of class METHOD and has this link to the middle one.
+fn said_beside(alloc: Global, version: Candidate, link: Option<Stamp>) -> Result<Said, Fail> {
+    let mut sets = List::one(alloc, barred_set(alloc, &other())?)?;
+    put(alloc, &mut sets, HIGH, 5, &version)?;
+    let sets = Sets::new(sets).ok_or("no sets")?;
+    let mut links = List::new(alloc);
+    if let Some(stamp) = link {
+        links.push(Link { object: OWN, stamp })?;
+    }
+    let facts = List::one(
+        alloc,
+        Fact {
+            object: HIGH,
+            stamp: version.stamp,
+            links,
+        },
+    )?;
+    said_by(alloc, &sets, facts.as_slice())
+}
+
+fn said_by(alloc: Global, sets: &Sets, facts: &[Fact]) -> Result<Said, Fail> {
+    let bounds = Bounds::new(1)?;
+    let Class::Copy = classify(sets, OWN, &bounds) else {
+        return Ok(Said::Nothing);
+    };
+    Ok(match plan_copy(alloc, sets, OWN, &bounds, facts) {
+        Ok(plan) => match plan.joint.as_slice() {
+            [(object, candidate)] if *object == OWN => Said::Copies(*candidate),
+            _ => Said::Nothing,
+        },
+        Err(why) => Said::Refuses(why),
+    })
+}
+
+#[test]
+fn a_member_that_has_gone_on_covers_or_skips(rt: HostRuntime) -> Result<(), Fail> {
+    let alloc = rt.alloc();
+    let covered = Said::Copies(other());
+    let skipped = Said::Copies(Candidate::opening());
+    let stale = Said::Refuses(PlanFail::Stale(HIGH));
+    let equal = said_beside(alloc, later(), Some(other().stamp))?;
+    let greater = said_beside(alloc, later(), Some(stamp(2, false)))?;
+    let smaller = said_beside(alloc, later(), Some(stamp(0, false)))?;
+    let absent = said_beside(alloc, later(), None)?;
+    all_hold(&[
+        (equal == covered, "an equal link covers, and does not skip"),
+        (greater == stale, "a greater one is news of the target"),
+        (smaller == skipped, "a smaller one skips"),
+        (absent == skipped, "and so does none"),
+    ])
+}
+
+#[test]
+fn a_member_that_stays_covers_by_its_link_alone(rt: HostRuntime) -> Result<(), Fail> {
+    let alloc = rt.alloc();
+    let covered = Said::Copies(other());
+    let needed = Said::Refuses(PlanFail::Needs(HIGH));
+    let equal = said_beside(alloc, other(), Some(other().stamp))?;
+    let smaller = said_beside(alloc, other(), Some(stamp(0, false)))?;
+    let absent = said_beside(alloc, other(), None)?;
+    all_hold(&[
+        (equal == covered, "an equal link covers"),
+        (smaller == needed, "a smaller one tells too little"),
+        (absent == needed, "and so does none"),
     ])
 }

@@ -1,252 +1,90 @@
-//! Classes of random sets of up to four objects with groups, against a plain slow definition.
+//! Classes and plans of random sets of up to four objects with groups, against a plain slow definition.
 
 ghost use Rattle.std.specs.Prelude.{◌<◌};
 
-use qu_base::{Bounds, ClientId, Digest, List, ObjectId, ReplicaId};
-use qu_class::{Class, CopyPlan, PlanFail, classify, plan_copy};
-use qu_history::{History, Sealed, SetOf, Sets};
-use qu_stamp::{Candidate, Group, Stamp};
+use super::random_sets::{facts_beside, random_facts, random_sets};
+use super::slow_class::slow_class;
+use super::slow_plan::{Outcome, copies_just, slow_plan};
+use qu_base::{Bounds, ObjectId};
+use qu_class::{Class, CopyPlan, Fact, PlanFail, classify, evidence, plan_copy};
+use qu_history::Sets;
+use qu_stamp::Group;
 use qu_testing::holds;
-use rand_core::utils::NextWord;
 use rand_pcg::Lcg64Xsh32;
 use std::alloc::Global;
 use std::test::Fail;
 
-/// The objects, each with the time of its joint candidate.
-const MEMBERS: [(ObjectId, u64); 4] = [
-    (ObjectId(0), 1),
-    (ObjectId(1), 2),
-    (ObjectId(2), 1),
-    (ObjectId(3), 2),
-];
-
-/// No group, or that of the first two, three or four objects.
-fn group_of(kind: u32) -> Group {
-    let members = match kind % 4 {
-        0 => &MEMBERS[..0],
-        1 => &MEMBERS[..2],
-        2 => &MEMBERS[..3],
-        _ => &MEMBERS[..],
-    };
-    Group::new(members).unwrap_or(Group::none())
+/// What was met of plans, by the test that draws them.
+#[derive(Drop)]
+struct Met {
+    alone: bool,
+    joint: bool,
+    covered: bool,
+    stale: bool,
+    needed: bool,
 }
 
-fn candidate(time: u64, barrier: bool, group: Group) -> Candidate {
-    Candidate {
-        stamp: Stamp {
-            time,
-            barrier,
-            client: ClientId(1),
-            act: None,
-            set: Digest([2; 32]),
-        },
-        prior: Stamp::opening(),
-        group,
-    }
-}
-
-/// A history with the joint candidate of this group, if there is one. Now and then it has one with another group, and
-/// a barrier above, which a barred one has in any case.
-fn random_history(
+/// The plan of the first object, if it is of class COPY.
+fn plan_of_the_first(
     alloc: Global,
-    word: u32,
-    replica: u8,
-    member: &(ObjectId, u64),
-    joint: Option<Group>,
-    barred: bool,
-) -> Result<History, Fail> {
-    let mut history = History::opening(alloc, member.0, ReplicaId(replica))?;
-    if word % 16 == 0 {
-        history.add(candidate(member.1, false, group_of(word / 16)))?;
-    } else if let Some(group) = joint {
-        history.add(candidate(member.1, false, group))?;
-    }
-    if barred || word / 64 % 32 == 0 {
-        history.add(candidate(3, true, Group::none()))?;
-    }
-    Ok(history)
-}
-
-/// The histories of one object. Which replicas follow the joint candidate is drawn from the seed, which is one for all
-/// objects.
-fn random_set(
-    alloc: Global,
-    words: &mut Lcg64Xsh32,
-    seed: u64,
-    member: &(ObjectId, u64),
+    sets: &Sets,
+    facts: &[Fact],
     bounds: &Bounds,
-) -> Result<SetOf, Fail> {
-    let mut shared = Lcg64Xsh32::new(seed, 2);
-    let group = group_of(shared.next_word());
-    let density = shared.next_word() % 9;
-    let bars = shared.next_word() % 8 == 0;
-    let mut entries = List::new(alloc);
-    for replica in 0..bounds.n() {
-        let joint = if shared.next_word() % 8 < density {
-            Some(group)
-        } else {
-            None
-        };
-        let word = words.next_word();
-        let barred = bars && word / 2048 % 4 != 0;
-        let history = random_history(alloc, word, replica, member, joint, barred)?;
-        let macs = List::new(alloc);
-        entries.push(Sealed { history, macs })?;
-    }
-    Ok(SetOf {
-        object: member.0,
-        entries,
+) -> Option<Result<CopyPlan, PlanFail>> {
+    let Class::Copy = classify(sets, ObjectId(0), bounds) else {
+        return None;
+    };
+    Some(plan_copy(alloc, sets, ObjectId(0), bounds, facts))
+}
+
+/// Whether the plan of the first object, which is of class COPY, is that of the definition.
+fn is_plan_of_the_definition(
+    alloc: Global,
+    sets: &Sets,
+    facts: &[Fact],
+    bounds: &Bounds,
+    met: &mut Met,
+) -> Result<bool, Fail> {
+    let slow = slow_plan(alloc, sets, facts, bounds, &mut met.covered)?;
+    let plan = plan_of_the_first(alloc, sets, facts, bounds);
+    Ok(match (plan, slow) {
+        (Some(Ok(plan)), Outcome::Joint(objects)) => {
+            if objects.len() == 1 {
+                met.alone = true;
+            } else {
+                met.joint = true;
+            }
+            copies_just(sets, facts, bounds, &plan, objects.as_slice())
+        }
+        (Some(Err(why)), Outcome::Refused(PlanFail::Stale(object))) => {
+            met.stale = true;
+            why == PlanFail::Stale(object)
+        }
+        (Some(Err(why)), Outcome::Refused(PlanFail::Needs(object))) => {
+            met.needed = true;
+            why == PlanFail::Needs(object)
+        }
+        _ => false,
     })
 }
 
-/// The first object, and most of the others.
-fn random_sets(alloc: Global, words: &mut Lcg64Xsh32, bounds: &Bounds) -> Result<Sets, Fail> {
-    let seed = u64::from(words.next_word());
-    let mut sets = List::new(alloc);
-    for member in &MEMBERS {
-        if member.0 == ObjectId(0) || words.next_word() % 8 != 0 {
-            sets.push(random_set(alloc, words, seed, member, bounds)?)?;
-        }
-    }
-    Ok(Sets::new(sets).ok_or("no sets")?)
-}
-
-/// The greatest candidate of this kind that so many histories hold.
-fn greatest(sets: &Sets, object: ObjectId, barrier: bool, least: u8) -> Option<Candidate> {
-    let mut best = None;
-    for entry in sets.find(object) {
-        for held in entry.history.candidates() {
-            let passes = held.stamp.barrier == barrier && sets.count(object, held) >= least;
-            if passes && is_above(held, &best) {
-                best = Some(*held);
-            }
-        }
-    }
-    best
-}
-
-fn is_above(held: &Candidate, best: &Option<Candidate>) -> bool {
-    match best {
-        Some(best) => best.is_before(held),
-        None => true,
-    }
-}
-
-fn latest(sets: &Sets, object: ObjectId) -> Stamp {
-    let mut latest = Stamp::opening();
-    for entry in sets.find(object) {
-        for held in entry.history.candidates() {
-            if latest.is_below(&held.stamp) {
-                latest = held.stamp;
-            }
-        }
-    }
-    latest
-}
-
-fn base_of(sets: &Sets, object: ObjectId, bounds: &Bounds) -> Candidate {
-    greatest(sets, object, false, bounds.r()).unwrap_or(Candidate::opening())
-}
-
-/// The class by its table.
-fn slow_class(sets: &Sets, object: ObjectId, bounds: &Bounds) -> Class {
-    let latest = latest(sets, object);
-    let base = base_of(sets, object, bounds);
-    if base.stamp == latest && sets.count(object, &base) >= bounds.q() {
-        return Class::Method(base);
-    }
-    if base.stamp == latest {
-        return inline_class(sets, base, bounds);
-    }
-    match greatest(sets, object, true, bounds.r()) {
-        Some(barrier) if barrier.stamp == latest => {
-            if sets.count(object, &barrier) >= bounds.q() {
-                Class::Copy
-            } else {
-                Class::InlineBarrier(barrier)
-            }
-        }
-        _ => Class::Barrier { prior: base.stamp },
-    }
-}
-
-/// The group rule: first all objects are looked at for one that is absent, and then for one that disagrees.
-fn inline_class(sets: &Sets, base: Candidate, bounds: &Bounds) -> Class {
-    for number in 0..64 {
-        let object = ObjectId(number);
-        if base.member(object).is_some() && !is_shown(sets, object) {
-            return Class::Needs(object);
-        }
-    }
-    for number in 0..64 {
-        if disagrees(sets, &base, ObjectId(number), bounds) {
-            return Class::Barrier { prior: base.stamp };
-        }
-    }
-    Class::InlineMethod(base)
-}
-
-fn is_shown(sets: &Sets, object: ObjectId) -> bool {
-    for set in sets.objects() {
-        if set.object == object {
-            return true;
-        }
-    }
-    false
-}
-
-fn disagrees(sets: &Sets, candidate: &Candidate, object: ObjectId, bounds: &Bounds) -> bool {
-    let Some(stamp) = candidate.member(object) else {
-        return false;
-    };
-    let base = base_of(sets, object, bounds);
-    latest(sets, object) != stamp || base.stamp != stamp || base.group != candidate.group
-}
-
-/// The lowest object of the target's group that keeps its copy from a plan.
-fn slow_apart(sets: &Sets, target: ObjectId, bounds: &Bounds) -> Option<ObjectId> {
-    let base = base_of(sets, target, bounds);
-    for number in 0..64 {
-        if is_apart(sets, &base, ObjectId(number), bounds) {
-            return Some(ObjectId(number));
-        }
-    }
-    None
-}
-
-fn is_apart(sets: &Sets, candidate: &Candidate, object: ObjectId, bounds: &Bounds) -> bool {
-    let Some(stamp) = candidate.member(object) else {
-        return false;
-    };
-    let base = base_of(sets, object, bounds);
-    slow_class(sets, object, bounds) != Class::Copy
-        || base.stamp != stamp
-        || base.group != candidate.group
-}
-
-/// Whether a plan copies the object candidates of all objects of the target's group, or that of the target alone.
-fn copies_all(sets: &Sets, target: ObjectId, bounds: &Bounds, plan: &CopyPlan) -> bool {
-    let base = base_of(sets, target, bounds);
-    for (object, candidate) in &plan.joint {
-        if *candidate != base_of(sets, *object, bounds) || candidate.group != base.group {
-            return false;
-        }
-    }
-    let copied = plan.joint.as_slice().len();
-    copied == base.group.pairs().len() || copied == 1 && base.group == Group::none()
-}
-
-/// Whether the plan of the first object, if it is of class COPY, is that of the definition.
-fn is_plan_of_the_definition(alloc: Global, sets: &Sets, bounds: &Bounds) -> bool {
-    let Class::Copy = classify(sets, ObjectId(0), bounds) else {
-        return true;
-    };
-    let apart = slow_apart(sets, ObjectId(0), bounds);
-    match plan_copy(alloc, sets, ObjectId(0), bounds) {
-        Ok(plan) => apart.is_none() && copies_all(sets, ObjectId(0), bounds, &plan),
-        Err(PlanFail::Needs(object)) => apart == Some(object),
-        Err(PlanFail::NoMemory) => false,
-    }
+/// Whether the plan of the first object is the same with other facts, if these are the same of its evidence.
+fn rests_on_its_evidence(
+    alloc: Global,
+    words: &mut Lcg64Xsh32,
+    sets: &Sets,
+    facts: &[Fact],
+    bounds: &Bounds,
+) -> Result<bool, Fail> {
+    let keys = evidence(alloc, sets, ObjectId(0), bounds)?;
+    let beside = facts_beside(alloc, words, facts, keys.as_slice())?;
+    let one = plan_of_the_first(alloc, sets, facts, bounds);
+    let two = plan_of_the_first(alloc, sets, beside.as_slice(), bounds);
+    Ok(match (one, two) {
+        (Some(Ok(one)), Some(Ok(two))) => one.joint.as_slice() == two.joint.as_slice(),
+        (Some(Err(one)), Some(Err(two))) => one == two,
+        _ => false,
+    })
 }
 
 /// The place of the class in the table; inline methods with a group stand apart.
@@ -281,11 +119,53 @@ fn classes_of_random_sets_with_groups_are_those_of_the_table(rt: HostRuntime) ->
             class == slow_class(&sets, ObjectId(0), &bounds),
             "the class of the table",
         )?;
-        holds(
-            is_plan_of_the_definition(rt.alloc(), &sets, &bounds),
-            "the plan of the definition",
-        )?;
         seen[place_of(&class)] = true;
     }
     holds(seen == [true; 7], "all classes")
+}
+
+/// Draws sets and facts, and looks at the plan of the first object where it is of class COPY: whether there is one.
+fn looks_at_a_plan(
+    alloc: Global,
+    words: &mut Lcg64Xsh32,
+    bounds: &Bounds,
+    met: &mut Met,
+) -> Result<bool, Fail> {
+    let sets = random_sets(alloc, words, bounds)?;
+    let facts = random_facts(alloc, words)?;
+    let Class::Copy = classify(&sets, ObjectId(0), bounds) else {
+        return Ok(false);
+    };
+    holds(
+        is_plan_of_the_definition(alloc, &sets, facts.as_slice(), bounds, met)?,
+        "the plan of the definition",
+    )?;
+    holds(
+        rests_on_its_evidence(alloc, words, &sets, facts.as_slice(), bounds)?,
+        "no other fact is read",
+    )?;
+    Ok(true)
+}
+
+#[test]
+fn plans_by_random_facts_are_those_of_the_definition(rt: HostRuntime) -> Result<(), Fail> {
+    let mut words = Lcg64Xsh32::new(12, 1);
+    let bounds = Bounds::new(1)?;
+    let mut met = Met {
+        alone: false,
+        joint: false,
+        covered: false,
+        stale: false,
+        needed: false,
+    };
+    let mut plans = 0_u32;
+    for _ in 0..60_000_u32 {
+        if plans < 10_000 && looks_at_a_plan(rt.alloc(), &mut words, &bounds, &mut met)? {
+            plans = plans.saturating_add(1);
+        }
+    }
+    holds(plans >= 10_000, "so many plans")?;
+    holds(met.alone && met.joint, "alone and together")?;
+    holds(met.covered, "a covered member")?;
+    holds(met.stale && met.needed, "both refusals")
 }

@@ -8,7 +8,7 @@ use super::text::Text;
 use qu_base::{Digest, List, NoMemory};
 use qu_frames::before_mac;
 use qu_history::Sealed;
-use qu_seal::{FRAME_TAG, HISTORY_TAG, digest};
+use qu_seal::{FRAME_TAG, HISTORY_TAG};
 use qu_trace::earlier;
 use std::alloc::Global;
 use std::collections::HashMap;
@@ -22,9 +22,6 @@ pub struct Seen {
 
 /// How many bytes of each end of a text are in its sample.
 const SAMPLED: usize = 32;
-
-/// How many of both.
-const ENDS: usize = 64;
 
 /// Of each digest the text that first had it.
 #[derive(Drop)]
@@ -127,16 +124,14 @@ impl Digests {
     }
 }
 
-/// A short digest of both ends of a text, by which it is looked up; texts may share one.
+/// What both ends of a text and its tag make together, by which it is looked up; texts may share one.
 fn sample(tag: u8, bytes: &[u8]) -> Digest {
-    digest(tag, &ends_of(bytes))
-}
-
-/// The first and the last bytes of a text, before zero bytes where they are fewer.
-fn ends_of(bytes: &[u8]) -> [u8; ENDS] {
     let count = bytes.len().min(SAMPLED);
-    let mut ends = [0; ENDS];
+    let mut ends = [0; SAMPLED];
     ends[..count].copy_from_slice(&bytes[..count]);
-    ends[SAMPLED..SAMPLED + count].copy_from_slice(&bytes[bytes.len() - count..]);
-    ends
+    ends[0] ^= tag;
+    for place in 0..count {
+        ends[place] ^= bytes[bytes.len() - 1 - place];
+    }
+    Digest(ends)
 }

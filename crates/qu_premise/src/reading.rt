@@ -1,99 +1,82 @@
-//! What an audit reads of frames and of the sets in requests.
-ghost use Rattle.std.specs.Prelude.{◌≡◌, ◌==◌, IfOk};
-ghost use Rattle.std.specs.List.{list_all};
+//! What an audit reads of the sets in requests.
+ghost use Rattle.std.specs.Prelude.{◌≡◌, ◌==◌, map, IfOk};
+ghost use Rattle.std.specs.List.{list_all, flat_map};
+ghost use Rattle.qu_history.specs.declared.sets.SetOf.{SetOf as ASet};
 ghost use Rattle.qu_history.specs.Culling.{culled, history_digest, is_right};
 ghost use Rattle.qu_history.specs.Sealing.{are_right};
 ghost use Rattle.qu_history.specs.Text.{sets_text};
+ghost use Rattle.qu_claims.specs.Digested.{history_text};
 
-use super::digests::Digests;
-use qu_base::{Digest, List, NoMemory, Party, ReplicaId};
+use super::text::Text;
+use qu_base::{List, NoMemory, Party, ReplicaId};
 use qu_history::{Sealed, SetOf, Sets};
 use qu_seal::KeyRing;
 use std::alloc::Global;
 
-/// The text of the sets without the entries whose HMAC for this reader is wrong.
+/// The text of the sets without the entries whose HMAC for this reader is wrong. These are the texts of their
+/// histories.
 #[tactic(auto, using(qu_history::proofs::RightSeals::culled_whole))]
 pub fn culled_text(
     alloc: Global,
-    digests: &Digests,
     keys: &KeyRing,
     me: ReplicaId,
     sets: &Sets,
+    histories: &[Text],
 ) -> Result<List<u8>, NoMemory>
+    requires { histories.now ≡ map history_text (flat_map (λ (set : ASet). set.entries) sets.now) }
     ensures { IfOk result (λ text. text ≡ sets_text (culled keys.now me sets.now)) }
 {
-    if are_right(alloc, digests, keys, me, sets.objects().as_slice())? {
+    if are_right(keys, me, sets.objects().as_slice(), histories) {
         return sets.text(alloc);
     }
     let found = sets.cull(alloc, me, keys)?;
     found.sets.text(alloc)
 }
 
-/// Whether the HMAC of each entry for this reader is right.
+/// Whether the HMAC of each entry for this reader is right, where these are the texts of all histories.
 #[tactic(auto, unfolding(qu_history::specs::Sealing::are_right))]
-fn are_right(
-    alloc: Global,
-    digests: &Digests,
-    keys: &KeyRing,
-    me: ReplicaId,
-    sets: &[SetOf],
-) -> Result<bool, NoMemory>
-    ensures { IfOk result (λ right. right ≡ are_right keys.now me sets.now) }
+fn are_right(keys: &KeyRing, me: ReplicaId, sets: &[SetOf], histories: &[Text]) -> bool
+    requires { histories.now ≡ map history_text (flat_map (λ (set : ASet). set.entries) sets.now) }
+    ensures { result ≡ are_right keys.now me sets.now }
 {
+    let mut left = histories;
     for set in sets {
-        if !is_set_right(alloc, digests, keys, me, set.entries.as_slice())? {
-            return Ok(false);
+        let (own, others) = left.split_at(set.entries.len());
+        if !is_set_right(keys, me, set.entries.as_slice(), own) {
+            return false;
         }
+        left = others;
     }
-    Ok(true)
+    true
 }
 
-fn is_set_right(
-    alloc: Global,
-    digests: &Digests,
-    keys: &KeyRing,
-    me: ReplicaId,
-    entries: &[Sealed],
-) -> Result<bool, NoMemory>
-    ensures { IfOk result (λ right. right ≡ list_all (is_right keys.now me) entries.now) }
+/// Whether the HMAC of each of these entries is right, where these are the texts of their histories.
+fn is_set_right(keys: &KeyRing, me: ReplicaId, entries: &[Sealed], histories: &[Text]) -> bool
+    requires { histories.now ≡ map history_text entries.now }
+    ensures { result ≡ list_all (is_right keys.now me) entries.now }
 {
-    for sealed in entries {
-        if !is_right(alloc, digests, keys, me, sealed)? {
-            return Ok(false);
+    for (place, sealed) in entries.iter().enumerate() {
+        if !is_right(keys, me, sealed, &histories[place]) {
+            return false;
         }
     }
-    Ok(true)
+    true
 }
 
-/// Whether an entry has an HMAC for each replica, and that for this reader is right.
-#[tactic(auto, unfolding(qu_history::specs::Culling::is_right))]
-fn is_right(
-    alloc: Global,
-    digests: &Digests,
-    keys: &KeyRing,
-    me: ReplicaId,
-    sealed: &Sealed,
-) -> Result<bool, NoMemory>
-    ensures { IfOk result (λ right. right ≡ is_right keys.now me sealed.now) }
+/// Whether an entry, whose history has this text, has an HMAC for each replica, and that for this reader is right.
+#[tactic(auto, unfolding(qu_history::specs::Culling::is_right, qu_history::specs::Culling::history_digest))]
+fn is_right(keys: &KeyRing, me: ReplicaId, sealed: &Sealed, history: &Text) -> bool
+    requires { history.now ≡ history_text sealed.now }
+    ensures { result ≡ is_right keys.now me sealed.now }
 {
     if sealed.macs.len() != usize::from(keys.bounds().n()) {
-        return Ok(false);
+        return false;
     }
     match sealed.macs.get(usize::from(me.0)) {
         Some(mac) => {
-            let digest = history_digest(alloc, digests, sealed)?;
             let from = Party::Replica(sealed.history.replica());
-            Ok(keys.verifies(from, Party::Replica(me), &digest, mac))
+            keys.verifies(from, Party::Replica(me), &history.digest(), mac)
         }
-        None => Ok(false),
+        None => false,
     }
-}
-
-/// The digest of a history, which is not computed anew where it was noted.
-#[tactic(auto, unfolding(qu_history::specs::Culling::history_digest))]
-fn history_digest(alloc: Global, digests: &Digests, sealed: &Sealed) -> Result<Digest, NoMemory>
-    ensures { IfOk result (λ digest. digest ≡ history_digest sealed.now.history) }
-{
-    let text = digests.history_text(alloc, sealed)?;
-    Ok(text.digest())
 }

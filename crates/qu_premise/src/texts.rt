@@ -122,9 +122,29 @@ fn add_frame(
 {
     let digested = digests.signed_text(alloc, text)?;
     let handler = handler_of(setup, to, text, frame, digested.digest());
-    add_request(alloc, digests, setup, frame, handler, texts)?;
+    let mut histories = List::new(alloc);
+    add_entries(alloc, digests, setup, frame, handler, &mut histories)?;
+    add_request(
+        alloc,
+        digests,
+        setup,
+        frame,
+        handler,
+        histories.as_slice(),
+        texts,
+    )?;
     texts.push(digested)?;
-    add_entries(alloc, digests, setup, frame, handler, texts)
+    append(texts, histories)
+}
+
+/// Puts these texts behind the others.
+fn append(texts: &mut List<Text>, more: List<Text>) -> Result<(), NoMemory>
+    ensures { OnOk result (texts.new ≡ texts.old ++ more) }
+{
+    for text in more.into_vec() {
+        texts.push(text)?;
+    }
+    Ok(())
 }
 
 /// The replica that handles the frame of these bytes, which have this digest.
@@ -150,16 +170,19 @@ fn handler_of(
     }
 }
 
-/// Adds the texts whose digests stand in stamps, where a replica handles the frame.
+/// Adds the texts whose digests stand in stamps, where a replica handles the frame, whose entries have these
+/// histories.
 fn add_request(
     alloc: Global,
     digests: &Digests,
     setup: &Setup,
     frame: &Frame,
     handler: Option<ReplicaId>,
+    histories: &[Text],
     texts: &mut List<Text>,
 ) -> Result<(), NoMemory>
-    requires { IsSetup setup.now }
+    requires setup { IsSetup setup.now }
+    requires histories { histories.now ≡ entry_texts setup.now frame.now handler }
     ensures { OnOk result (texts.new ≡ texts.old ++ request_texts setup.now frame.now handler) }
 {
     match (handler, frame) {
@@ -173,7 +196,7 @@ fn add_request(
                 ..
             },
         ) if are_known(setup, sets) => {
-            let culled = culled_text(alloc, digests, &ring_of(setup), me, sets)?;
+            let culled = culled_text(alloc, &ring_of(setup), me, sets, histories)?;
             texts.push(digests.text(SETS_TAG, culled))?;
             add_body(alloc, digests, *client, *number, body, texts)
         }

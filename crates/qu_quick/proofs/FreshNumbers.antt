@@ -122,7 +122,7 @@ module _ (trace : Trace) (is_run : IsRun trace) (have : ArePlain trace) (clients
   unfolding setting
   plain_of_version object candidate version ever (HasVersion.of_opening same kind is_kind) = refl
   plain_of_version object candidate version ever
-      (HasVersion.of_copy same it base state below plain not_act prior accepted has) = plain
+      (HasVersion.of_copy same it base before state below plain not_act prior accepted has after) = plain
   plain_of_version object candidate version ever
       (HasVersion.of_update same it update bases befores afters state below is_of rests has values is lower) =
       facts.plain object candidate ever (acts trace update object candidate is_of)
@@ -137,12 +137,12 @@ module _ (trace : Trace) (is_run : IsRun trace) (have : ArePlain trace) (clients
   row_began time within object base established version has client correct row found =
       let bound : time ≤ (setting trace).last = omega (arith, last_is trace, within) in
       let ever : IsEverAccepted trace object base =
-      some-later (setting trace) laws time (setting trace).last bound object base
-      (accepted_by_attested (setting trace) laws time object base
-      (attested_by_established (setting trace) laws time object base established)) in
+      some-later (setting trace) laws.lasting time (setting trace).last bound object base
+      (accepted_by_attested (setting trace) laws.lasting time object base
+      (attested_by_established (setting trace) laws.lasting time object base established)) in
       let it : IsWritten trace object base client row = facts.written object base version has ever client row found in
       let accepted : IsAccepted (setting trace) time object it.first =
-      accepted_by_decided (setting trace) laws time object it.first
+      accepted_by_decided (setting trace) laws.lasting time object it.first
       (up_to_decided trace laws joint time bound object base
       (plain_of_version object base version ever has) established it.first
       it.accepted it.up_to) in
@@ -188,7 +188,7 @@ module _ (trace : Trace) (is_run : IsRun trace) (have : ArePlain trace) (clients
       base_established =
           let shown : quorum trace.setup.bounds
           ≤ acceptors (setting trace) operation.invoked object base + (setting trace).faults = base_shown in
-          let few : (setting trace).faults ≤ trace.setup.bounds = laws.sizes.borne in
+          let few : (setting trace).faults ≤ trace.setup.bounds = laws.lasting.sizes.borne in
           omega (arith, shown, few)
 
       pub base_ever : IsEverAccepted trace object base

@@ -94,7 +94,7 @@ object_known trace laws object candidate ever time place state is_state good =
     let begins : (setting trace).accepted 0 object place opening ≡ true =
     laws.begins object place known good (omega (arith, below, all)) in
     let still : (setting trace).accepted time object place opening ≡ true =
-    accepted-later (setting trace) laws 0 time (omega arith) object place opening begins in
+    accepted-later (setting trace) laws.lasting 0 time (omega arith) object place opening begins in
     held_within opening state.histories object.0 (slice_get state.histories object.0) refl
     (sym (test_at-here (accepts object opening) (world_after trace time).replicas place state is_state) ∙ still)
 

@@ -5,7 +5,7 @@ use qu_base::{ClientId, Digest, List, ObjectId, ReplicaId};
 use qu_frames::Refusal;
 use qu_history::{HISTORY_LIMIT, History};
 use qu_mends::{Accepted, Mend, Mending, Part, Remedy};
-use qu_objects::{ObjState, Value};
+use qu_objects::{Link, ObjState, Value};
 use qu_stamp::{Candidate, Group, LAST_TIME, Stamp};
 use qu_testing::holds;
 use std::alloc::Global;
@@ -45,9 +45,9 @@ fn candidate(time: u64, barrier: bool, prior: Stamp) -> Candidate {
     }
 }
 
-/// A request of client 1, where the sets show nothing above this time.
-fn mend(remedy: Remedy, latest: u64) -> Mend {
-    Mend {
+/// A request of client 1, where the sets show nothing above this time, and what is made has this group.
+fn mend(alloc: Global, remedy: Remedy, latest: u64, made: Group) -> Result<Mend, Fail> {
+    Ok(Mend {
         target: OBJECT,
         client: ClientId(1),
         set: Digest([2; 32]),
@@ -57,9 +57,9 @@ fn mend(remedy: Remedy, latest: u64) -> Mend {
             at(latest).stamp
         },
         remedy,
-        group: Group::none(),
-        made: Group::none(),
-    }
+        remedies: List::one(alloc, (OBJECT, remedy))?,
+        made,
+    })
 }
 
 /// The candidate of this time, as the sets show it.
@@ -145,7 +145,8 @@ fn wants(
     row: &Seen,
 ) -> Result<(), Fail> {
     let own = own(alloc, count)?;
-    if outcome(alloc, &mend(remedy, latest), &own, found)? == *row {
+    let mend = mend(alloc, remedy, latest, Group::none())?;
+    if outcome(alloc, &mend, &own, found)? == *row {
         Ok(())
     } else {
         Err("another row".into())
@@ -252,6 +253,8 @@ fn what_a_plan_needs_is_told_first(rt: HostRuntime) -> Result<(), Fail> {
     let member = ObjectId(7);
     let needs = Seen::Refuses(Refusal::Needs(member));
     wants(alloc, Remedy::Unplanned(member), 2, (4, false), &needs)?;
+    let stale = Seen::Refuses(Refusal::Stale(member));
+    wants(alloc, Remedy::Outdated(member), 2, (4, false), &stale)?;
     wants(
         alloc,
         Remedy::Unshown(member),
@@ -286,10 +289,7 @@ fn of_two(
     };
     let candidate = joined(3)?;
     let remedy = Remedy::Shown(candidate);
-    let mend = Mend {
-        group: candidate.group,
-        ..mend(remedy, 3)
-    };
+    let mend = mend(alloc, remedy, 3, Group::none())?;
     let (lower, higher) = (own(alloc, first)?, own(alloc, second)?);
     let mut parts = List::new(alloc);
     for (object, own, found) in [
@@ -350,4 +350,82 @@ fn the_lowest_object_is_named(rt: HostRuntime) -> Result<(), Fail> {
         }
     }
     Ok(())
+}
+
+/// A version with these links.
+fn linked(alloc: Global, links: &[(ObjectId, Stamp)]) -> Result<ObjState, Fail> {
+    let mut listed = List::new(alloc);
+    for (object, stamp) in links {
+        listed.push(Link {
+            object: *object,
+            stamp: *stamp,
+        })?;
+    }
+    Ok(ObjState {
+        value: Value::Counter(Counter::new(7)),
+        kept: List::new(alloc),
+        links: listed,
+    })
+}
+
+/// What a replica makes of a request to copy these versions on both objects, where the sets show nothing above time 3.
+fn copied(alloc: Global, first: &ObjState, second: &ObjState) -> Result<Mending, Fail> {
+    let made = joined(4)?.group;
+    let mend = mend(alloc, copy(), 3, made)?;
+    let own = own(alloc, 4)?;
+    let mut parts = List::new(alloc);
+    for (object, version) in [(OBJECT, first), (OTHER, second)] {
+        parts.push(Part {
+            object,
+            latest: mend.latest,
+            remedy: copy(),
+            own: Some(&own),
+            version: Some(version),
+        })?;
+    }
+    Ok(mend.decide(alloc, parts.as_slice())?)
+}
+
+const THIRD: ObjectId = ObjectId(9);
+
+#[test]
+fn a_copy_links_the_objects_of_its_group(rt: HostRuntime) -> Result<(), Fail> {
+    let alloc = rt.alloc();
+    let first = linked(alloc, &[(OTHER, at(1).stamp), (THIRD, at(2).stamp)])?;
+    let second = linked(alloc, &[])?;
+    holds(
+        links_both(&copied(alloc, &first, &second)?),
+        "a new link to the other object, and the old one to the third",
+    )
+}
+
+fn links_both(mending: &Mending) -> bool {
+    let new = at(4).stamp;
+    match mending {
+        Mending::Mends { accepted, .. } => match accepted.as_slice() {
+            [lower, higher] => {
+                has_links(&lower.state, &[(OTHER, new), (THIRD, at(2).stamp)])
+                    && has_links(&higher.state, &[(OBJECT, new)])
+            }
+            _ => false,
+        },
+        _ => false,
+    }
+}
+
+/// Whether a version is stored, and has these links and no others.
+fn has_links(stored: &Option<ObjState>, links: &[(ObjectId, Stamp)]) -> bool {
+    match stored {
+        Some(version) => {
+            let stored = version.links.as_slice();
+            stored.len() == links.len() && links.iter().all(|link| is_link(stored, link))
+        }
+        None => false,
+    }
+}
+
+fn is_link(stored: &[Link], link: &(ObjectId, Stamp)) -> bool {
+    stored
+        .iter()
+        .any(|held| held.object == link.0 && held.stamp == link.1)
 }

@@ -30,7 +30,7 @@ use Rattle.qu_rows.specs.declared.decision.Decision.TheVariants.{Answers, Waits}
 use Rattle.qu_mends.specs.declared.mending.Mending.{Mending}
 use Rattle.qu_mends.specs.declared.mending.Mending.TheVariants as mending
 use Rattle.qu_rows.specs.State.{ReplicaState, own_candidates, own_latest}
-use Rattle.qu_rows.specs.Rows.{asked_of, Asked, refuse, shown_of, method_base, base_version, row_unknown, row_thin, row_retry, row_current, row_method, row_version, row_kept, row_time, row_full, row_done, row_told, decide_act, decide_ask, decision_on, row_few, decision_by, mending_on, decide_repair}
+use Rattle.qu_rows.specs.Rows.{asked_of, Asked, refuse, shown_of, method_base, base_version, row_unknown, row_thin, row_retry, row_current, row_method, row_version, row_kept, row_time, row_full, row_done, row_told, decide_act, decide_ask, decision_on, row_few, missing_of, evidence_for, waits_for, row_evidence, decision_by, mending_on, decide_repair}
 use Rattle.qu_mends.specs.Table.{first_given}
 use Rattle.qu_versions.specs.Versions.{version_at}
 use Rattle.qu_fitting.proofs.CarriedEach.{with_stamps, AreBases, AreBefores, told_each}
@@ -136,6 +136,15 @@ module _ (P : Decision → Type 0) (refused : (why : Refusal) → P (refuse why)
       by_test false decision given = absurd (none-some decision given)
       by_test true decision given = subst P (same_Some (refuse (refusal.Thin target)) decision given) (refused _)
 
+  waiting_for : (missing : List (ObjectId × Stamp)) → Gives P (waits_for missing)
+  waiting_for [] decision given = absurd (none-some decision given)
+  waiting_for (key ∷ more) decision given =
+      subst P (same_Some (Waits (key ∷ more)) decision given) (waits (key ∷ more))
+
+  evidence : (target : ObjectId) → Gives P (row_evidence state asked target)
+  unfolding row_evidence
+  evidence target = waiting_for (missing_of state (evidence_for state asked target))
+
   last_row : (decision : Decision) → P decision → P (first_given (Waits []) (Some decision ∷ []))
   unfolding first_given
   last_row decision is = is
@@ -145,7 +154,8 @@ module _ (P : Decision → Type 0) (refused : (why : Refusal) → P (refuse why)
       → P (decide_repair state asked target)
   unfolding decide_repair
   mend_cases target mended =
-      past P _ _ unknown (λ _. past P _ _ thin (λ _. past P _ _ (few target) (λ _. last_row _ mended)))
+      past P _ _ unknown (λ _.
+      past P _ _ thin (λ _. past P _ _ (few target) (λ _. past P _ _ (evidence target) (λ _. last_row _ mended))))
 
 -- the version is that of the base
 pub version_of_base : (state : ReplicaState) (asked : Asked) (object : ObjectId) (base : Candidate)

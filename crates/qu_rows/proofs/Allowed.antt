@@ -34,7 +34,7 @@ use Rattle.qu_mends.specs.declared.accepted.Accepted.{Accepted}
 use Rattle.qu_rows.specs.declared.decision.Decision.{Decision}
 use Rattle.qu_rows.specs.declared.decision.Decision.TheVariants.{Answers, Waits}
 use Rattle.qu_rows.specs.State.{ReplicaState, own_candidates, own_latest}
-use Rattle.qu_rows.specs.Rows.{Asked, refuse, refuse_first, objects_of, method_base, shown_of, fresh_stamp, fresh_group, fresh_act, accepted_by, done_again, repeated, row_unknown, row_thin, row_retry, row_current, row_method, row_version, row_kept, row_time, row_full, row_done, row_told, row_few, mending_on, decision_by, decide_act, decide_ask, decide_repair, decision_on}
+use Rattle.qu_rows.specs.Rows.{Asked, refuse, refuse_first, objects_of, method_base, shown_of, fresh_stamp, fresh_group, fresh_act, accepted_by, done_again, repeated, row_unknown, row_thin, row_retry, row_current, row_method, row_version, row_kept, row_time, row_full, row_done, row_told, row_few, missing_of, evidence_for, waits_for, row_evidence, mending_on, decision_by, decide_act, decide_ask, decide_repair, decision_on}
 use Rattle.qu_mends.specs.Table.{first_given, has_no_room}
 use Rattle.qu_rows.specs.Allowed.{MayAccept, MayAcceptAll, MayDecide, has_parts}
 use Rattle.qu_rows.proofs.Accepting.{accepted_of, accepted_cons, accepted_none, accepted_empty}
@@ -344,6 +344,16 @@ known_target state asked target known enough =
     (λ empty. let none : length (shown_of asked target) ≡ 0 = ap length empty
     in absurd (omega (arith, none, some_quorum state.keys.bounds)))
 
+waits-may : (state : ReplicaState) (missing : List (ObjectId × Stamp)) → MayGive state (waits_for missing)
+waits-may state [] decision given = absurd (none-some decision given)
+waits-may state (key ∷ more) decision given =
+    subst (MayDecide state) (same_Some (Waits (key ∷ more)) decision given) tt
+
+evidence : (state : ReplicaState) (asked : Asked) (target : ObjectId)
+    → MayGive state (row_evidence state asked target)
+unfolding row_evidence
+evidence state asked target = waits-may state (missing_of state (evidence_for state asked target))
+
 mended : (state : ReplicaState) (asked : Asked) (target : ObjectId) → row_unknown state asked ≡ None
     → row_few state asked target ≡ None
     → MayGive state (Some (decision_by target (mending_on state asked target)))
@@ -359,7 +369,8 @@ may_repair state asked target =
     past state _ _ (unknown state asked) (λ known.
     past state _ _ (thin state asked) (λ _.
     past state _ _ (few state asked target) (λ enough.
-    past state _ _ (mended state asked target known enough) (λ _. nothing state))))
+    past state _ _ (evidence state asked target) (λ _.
+    past state _ _ (mended state asked target known enough) (λ _. nothing state)))))
 
 pub decision_on-may : (state : ReplicaState) (asked : Asked) (asks : Body) → IsTrue (has_parts asks)
     → MayDecide state (decision_on state asked asks)

@@ -17,7 +17,7 @@ use Rattle.qu_mends.specs.declared.seen.Seen.{Seen}
 use Rattle.qu_mends.specs.Remedy.{fresh_member}
 use Rattle.qu_rows.specs.Rows.{Asked, objects_of, unless_alone, fresh_stamp, fresh_group}
 use Rattle.qu_rows.specs.SeenRows.{AreOperated, stamp_seen, members_seen, group_seen}
-use Rattle.qu_rows.proofs.RisingObjects.{IsNumbered, RiseFrom, parts_objects_rise}
+use Rattle.qu_kept.proofs.RisingObjects.{IsNumbered, RiseFrom, parts_objects_rise}
 
 -- ---- rising objects with times are a group
 

@@ -1,7 +1,7 @@
 pub mod Own
-pub mod RisingObjects
 pub mod FreshGroups
 pub mod MendedObjects
+pub mod Facts
 pub mod Allowed
 pub mod Held
 pub mod Carried

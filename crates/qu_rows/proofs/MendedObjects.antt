@@ -13,21 +13,21 @@ use Rattle.qu_stamp.specs.Stamp.{is_below}
 use Rattle.qu_history.specs.declared.limits.TheConstants.{HISTORY_LIMIT}
 use Rattle.qu_history.specs.declared.sets.SetOf.{SetOf}
 use Rattle.qu_history.specs.Sets.{entries_of, histories}
-use Rattle.qu_class.specs.Class.{is_in_sets, class_in}
+use Rattle.qu_class.specs.Class.{is_in_sets}
 use Rattle.qu_class.specs.Rows.{AllShown}
-use Rattle.qu_class.specs.Repairable.{object_base}
 use Rattle.qu_mends.specs.declared.accepted.Accepted.{Accepted}
 use Rattle.qu_mends.specs.declared.remedy.Remedy.{Remedy}
-use Rattle.qu_mends.specs.declared.remedy.Remedy.TheVariants.{Nothing, Shown, Fresh, Unshown, Unplanned}
+use Rattle.qu_mends.specs.declared.remedy.Remedy.TheVariants.{Nothing, Shown, Fresh, Unshown, Unplanned, Outdated}
 use Rattle.qu_mends.specs.declared.mend.Mend.{Mend}
 use Rattle.qu_mends.specs.declared.mending.Mending.{Mending}
 use Rattle.qu_mends.specs.declared.mending.Mending.TheVariants.{Mends, Holds, Refuses, Waits}
-use Rattle.qu_mends.specs.Remedy.{base_on, member_remedy, remedies_by, remedies_of}
+use Rattle.qu_mends.specs.declared.course.Course.{Course}
+use Rattle.qu_mends.specs.Remedy.{course_of, remedies_by}
 use Rattle.qu_mends.specs.Causes.{MakesCandidate, ArePartsOf, ArePartsAdded, HasCause}
-use Rattle.qu_mends.proofs.Members.{AreOthers, DoDiffer, remedies_differ, group_is_whole, group_shown}
+use Rattle.qu_mends.proofs.Members.{AreOthers, DoDiffer, AreOf, Lists, AllAddPlain, IsCourse, each_course, remedies_differ}
 use Rattle.qu_mends.proofs.Decided.{decided_has_cause}
 use Rattle.qu_rows.specs.State.{ReplicaState, own_candidates, own_latest}
-use Rattle.qu_rows.specs.Rows.{Asked, mend_asked, part_of, parts_of, mending_on, decision_by}
+use Rattle.qu_rows.specs.Rows.{Asked, linking_of, mend_asked, part_of, parts_of, mending_on, decision_by}
 use Rattle.qu_rows.specs.Allowed.{MayAcceptAll, MayDecide}
 
 -- what mends an object has no time after the last
@@ -36,6 +36,7 @@ made_in_time : (mend : Mend) (latest : Stamp) (remedy : Remedy) (candidate : Can
 made_in_time mend latest Nothing candidate made = absurd made
 made_in_time mend latest (Unshown member) candidate made = absurd made
 made_in_time mend latest (Unplanned other) candidate made = absurd made
+made_in_time mend latest (Outdated other) candidate made = absurd made
 made_in_time mend latest (Shown shown) candidate made =
     subst (λ (it : Candidate). it.stamp.time ≤ LAST_TIME) (sym made.0) made.1
 made_in_time mend latest (Fresh barrier prior) candidate made =
@@ -68,39 +69,40 @@ known_in_sets number (set ∷ later) object none shown =
           | inr there ↦ so_far found there
         ]
 
-module _ (state : ReplicaState) (sets : List SetOf) where
-  members_known : (bounds : ℕ) → find (λ (set : SetOf). nat_le (length state.histories) (set.object).0) sets ≡ None
-      → (remedy : Remedy) (group : List (ObjectId × ℕ)) → AllShown sets group
-      → AreKnown state (map (member_remedy bounds sets remedy) group)
-  members_known bounds none remedy [] shown = tt
-  members_known bounds none remedy (member ∷ later) shown = (
-    known_in_sets (length state.histories) sets member.0 none shown.0,
-    members_known bounds none remedy later shown.1,
+module _ (state : ReplicaState) (sets : List SetOf)
+    (none : find (λ (set : SetOf). nat_le (length state.histories) (set.object).0) sets ≡ None) where
+  members_known : (group : List (ObjectId × ℕ)) (members : List (ObjectId × Remedy)) → AreOf group members
+      → AllShown sets group → AreKnown state members
+  members_known [] [] of shown = tt
+  members_known [] (mended ∷ more) of shown = absurd of
+  members_known (member ∷ later) [] of shown = absurd of
+  members_known (member ∷ later) (mended ∷ more) of shown = (
+    subst (λ (it : ObjectId). it.0 < length state.histories) (sym of.0)
+        (known_in_sets (length state.histories) sets member.0 none shown.0),
+    members_known later more of.1 shown.1,
   )
 
-  pub remedies_known : (bounds : ℕ)
-      → find (λ (set : SetOf). nat_le (length state.histories) (set.object).0) sets ≡ None
-      → (target : ObjectId) (remedy : Remedy) (group : List (ObjectId × ℕ)) → AllShown sets group
-      → target.0 < length state.histories → AreKnown state (remedies_by bounds sets target remedy group)
+  pub remedies_known : (target : ObjectId) (course : Course) (group : List (ObjectId × ℕ))
+      → Lists group course.members → AllShown sets group → target.0 < length state.histories
+      → AreKnown state (remedies_by target course group)
   unfolding remedies_by
-  remedies_known bounds none target remedy [] shown known = (known, tt)
-  remedies_known bounds none target remedy (member ∷ later) shown known =
-      members_known bounds none remedy (member ∷ later) shown
+  remedies_known target course [] lists shown known = (known, tt)
+  remedies_known target course (member ∷ later) lists shown known =
+      members_known (member ∷ later) course.members lists shown
 
 -- ---- what is mended is mended as the target is
 
 module _ (state : ReplicaState) (asked : Asked) (mend : Mend) where
-  members_like : (bounds : ℕ) (group : List (ObjectId × ℕ))
-      → ArePartsOf mend (map (part_of state asked) (map (member_remedy bounds asked.sets mend.remedy) group))
-  members_like bounds [] = tt
-  members_like bounds (member ∷ later) =
-      (inr (object_base bounds (entries_of member.0 asked.sets), refl), members_like bounds later)
+  members_like : (members : List (ObjectId × Remedy)) → AllAddPlain members
+      → ArePartsOf mend (map (part_of state asked) members)
+  members_like [] plain = tt
+  members_like (mended ∷ later) plain = (inr plain.0, members_like later plain.1)
 
-  like_by : (bounds : ℕ) (group : List (ObjectId × ℕ))
-      → ArePartsOf mend (map (part_of state asked) (remedies_by bounds asked.sets mend.target mend.remedy group))
+  like_by : (target : ObjectId) (course : Course) (group : List (ObjectId × ℕ)) → course.remedy ≡ mend.remedy
+      → AllAddPlain course.members → ArePartsOf mend (map (part_of state asked) (remedies_by target course group))
   unfolding remedies_by
-  like_by bounds [] = (inl refl, tt)
-  like_by bounds (member ∷ later) = members_like bounds (member ∷ later)
+  like_by target course [] same plain = (inl same, tt)
+  like_by target course (member ∷ later) same plain = members_like course.members plain
 
   -- ---- each may be accepted
 
@@ -149,8 +151,14 @@ module _ (state : ReplicaState) (asked : Asked) (target : ObjectId) where
   abbrev mend : Mend
   mend = mend_asked state asked target
 
+  abbrev course : Course
+  course = course_of state.keys.bounds asked.sets (linking_of state) target
+
+  is_course : IsCourse state.keys.bounds asked.sets course
+  is_course = each_course state.keys.bounds asked.sets (linking_of state) target
+
   pub parts_like : ArePartsOf mend (parts_of state asked target)
-  parts_like = like_by state asked mend state.keys.bounds mend.group
+  parts_like = like_by state asked mend target course course.group refl is_course.plain
 
   pub mending_has_cause : HasCause mend (parts_of state asked target) (mending_on state asked target)
   mending_has_cause = decided_has_cause mend (parts_of state asked target) parts_like
@@ -159,12 +167,9 @@ module _ (state : ReplicaState) (asked : Asked) (target : ObjectId) where
   pub mending_may : find (λ (set : SetOf). nat_le (length state.histories) (set.object).0) asked.sets ≡ None
       → target.0 < length state.histories → MayDecide state (decision_by target (mending_on state asked target))
   mending_may none known =
-      let bounds : ℕ = state.keys.bounds in
-      caused_may state asked mend target (remedies_of bounds asked.sets mend)
-      (remedies_differ bounds asked.sets mend.remedy target mend.group
-      (group_is_whole (base_on bounds asked.sets target) (class_in bounds asked.sets target) mend.remedy))
-      (remedies_known state asked.sets bounds none target mend.remedy mend.group
-      (group_shown bounds asked.sets target) known)
+      caused_may state asked mend target mend.remedies
+      (remedies_differ target course course.group is_course.whole is_course.lists)
+      (remedies_known state asked.sets none target course course.group is_course.lists is_course.shown known)
       (mending_on state asked target) mending_has_cause
 
 -- ---- what the sets show of each

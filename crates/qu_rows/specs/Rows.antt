@@ -19,9 +19,12 @@ use Rattle.qu_objects.specs.declared.query.Ask.{Ask}
 use Rattle.qu_objects.specs.declared.state.ObjState.{ObjState}
 use Rattle.qu_objects.specs.Performing.{performed_answer, told_answer}
 use Rattle.qu_objects.specs.Digesting.{act_digest}
+use Rattle.qu_class.specs.declared.fact.Fact.{Fact}
 use Rattle.qu_class.specs.declared.class.Class.{Class}
 use Rattle.qu_class.specs.declared.class.Class.TheVariants as class
-use Rattle.qu_class.specs.Class.{class_in}
+use Rattle.qu_class.specs.Class.{is_copy, class_in}
+use Rattle.qu_class.specs.Evidence.{evidence_of}
+use Rattle.qu_class.specs.Linking.{Linking, link_in}
 use Rattle.qu_kept.specs.declared.repeats.Standing.{Standing}
 use Rattle.qu_kept.specs.declared.repeats.Standing.TheVariants.{Fresh, Already, Spent}
 use Rattle.qu_kept.specs.Performing.{values_of, performed_states}
@@ -37,7 +40,7 @@ use Rattle.qu_mends.specs.declared.remedy.Remedy.{Remedy}
 use Rattle.qu_mends.specs.declared.mend.Mend.{Mend}
 use Rattle.qu_mends.specs.declared.mending.Mending.{Mending}
 use Rattle.qu_mends.specs.declared.mending.Mending.TheVariants as mending
-use Rattle.qu_mends.specs.Remedy.{MendPart, mend_of, remedies_of, wanted_by}
+use Rattle.qu_mends.specs.Remedy.{MendPart, mend_of, wanted_by}
 use Rattle.qu_mends.specs.Mending.{decide_mend}
 use Rattle.qu_mends.specs.declared.seen.Seen.{Seen}
 use Rattle.qu_mends.specs.declared.accepted.Accepted.{Accepted}
@@ -304,9 +307,38 @@ row_few state asked target =
     if nat_lt (length (shown_of asked target)) (quorum state.keys.bounds) then Some (refuse (refusal.Thin target))
     else None
 
--- the request, with what its sets say of the target
+-- what the versions that the replica has tell of other objects
+abbrev pub linking_of : ReplicaState → Linking
+linking_of state object stamp other =
+    option_and_then (λ version. link_in version.links other) (version_at object stamp state.versions)
+
+-- of those under these keys
+abbrev pub fact_at : ReplicaState → ObjectId × Stamp → Option Fact
+fact_at state key =
+    option_map (λ (version : ObjState). record { object = key.0; stamp = key.1; links = version.links })
+    (version_at key.0 key.1 state.versions)
+
+abbrev pub facts_of : ReplicaState → List (ObjectId × Stamp) → List Fact
+facts_of state keys = filter_map (fact_at state) keys
+
+-- the versions that the plan of a copy reads; what is of another class is not copied
+abbrev pub evidence_for : ReplicaState → Asked → ObjectId → List (ObjectId × Stamp)
+evidence_for state asked target =
+    if is_copy (class_in state.keys.bounds asked.sets target)
+    then evidence_of state.keys.bounds asked.sets target else []
+
+abbrev pub waits_for : List (ObjectId × Stamp) → Option Decision
+waits_for [] = None
+waits_for (key ∷ more) = Some (Waits (key ∷ more))
+
+-- one of them is missing
+unfoldable pub row_evidence : ReplicaState → Asked → ObjectId → Option Decision
+row_evidence state asked target = waits_for (missing_of state (evidence_for state asked target))
+
+-- the request, with what its sets say of the target, and with a plan by what the versions tell
 abbrev pub mend_asked : ReplicaState → Asked → ObjectId → Mend
-mend_asked state asked target = mend_of state.keys.bounds asked.sets asked.set target asked.client
+mend_asked state asked target =
+    mend_of state.keys.bounds asked.sets (linking_of state) asked.set target asked.client
 
 -- the version that the remedy wants, where the replica has it
 abbrev pub wanted_version : ReplicaState → ObjectId → Remedy → Option ObjState
@@ -326,8 +358,7 @@ part_of state asked mended =
 
 -- those that are mended with the target
 abbrev pub parts_of : ReplicaState → Asked → ObjectId → List MendPart
-parts_of state asked target =
-    map (part_of state asked) (remedies_of state.keys.bounds asked.sets (mend_asked state asked target))
+parts_of state asked target = map (part_of state asked) (mend_asked state asked target).remedies
 
 -- what the replica makes of it
 abbrev pub mending_on : ReplicaState → Asked → ObjectId → Mending
@@ -345,6 +376,7 @@ decide_repair state asked target = first_given (Waits []) (
     row_unknown state asked
     ∷ row_thin state asked
     ∷ row_few state asked target
+    ∷ row_evidence state asked target
     ∷ Some (decision_by target (mending_on state asked target))
     ∷ [])
 

@@ -1,30 +1,28 @@
-ghost use Rattle.qu_base.specs.Bounds.{quorum};
-ghost use Rattle.std.specs.Prelude.{◌≡◌, ◌≤◌, [], ◌++◌, length, map, slice_get, None, IfOk, IfNone, IsTrue};
+ghost use Rattle.std.specs.Prelude.{◌≡◌, [], ◌++◌, length, map, slice_get, None, IfOk, IfNone, IsTrue};
 ghost use Rattle.std.specs.Option.{option_copied, option_or};
 ghost use Rattle.qu_history.specs.History.{latest};
 ghost use Rattle.qu_objects.specs.Parts.{are_parts};
 ghost use Rattle.qu_rows.specs.State.{AreHistories, are_own, own_latest, one_more};
 ghost use Rattle.qu_versions.specs.Versions.{version_at};
-ghost use Rattle.qu_frames.specs.declared.verdict.Verdict.TheVariants.{Mended};
-ghost use Rattle.qu_rows.specs.declared.decision.Decision.TheVariants.{Answers};
 ghost use Rattle.qu_rows.specs.Allowed.{MayDecide};
-ghost use Rattle.qu_rows.specs.Rows.{shown_of, seen_of, row_few, wanted_version, part_of, mending_on, decision_by, decide_repair, row_unknown, decide_act, decide_ask, decision_on, objects_of};
+ghost use Rattle.qu_rows.specs.Rows.{seen_of, row_unknown, decide_act, decide_ask, decision_on, objects_of};
 ghost use Rattle.qu_rows.specs.SeenRows.{AreOperated, versions_under, base_keys, current_on, method_on, version_on, act_upon, ask_upon};
 
 mod acting;
 mod bases;
 mod making;
+mod mending;
 mod retrying;
 
 use crate::asked::Asked;
-use crate::decision::{Decision, refuse};
+use crate::decision::Decision;
 use crate::versions::version_of;
 use acting::{row_kept, row_method, row_time};
 use making::row_done;
 use qu_base::{List, NoMemory, ObjectId, ReplicaId};
-use qu_frames::{Body, Refusal, Verdict};
+use qu_frames::Body;
 use qu_history::History;
-use qu_mends::{Accepted, Mend, Mending, Part, Remedy, Seen};
+use qu_mends::Seen;
 use qu_objects::{Act, ObjState, Query};
 use qu_seal::KeyRing;
 use qu_stamp::Stamp;
@@ -183,92 +181,6 @@ impl<'a> Rows<'a> {
         self.row_told(query, seen)
     }
 
-    /// What it makes of a request to mend an object.
-    #[tactic(auto, unfolding(crate::specs::Rows::decide_repair, qu_mends::specs::Table::first_given))]
-    fn decide_repair(&self, asked: &Asked, target: ObjectId) -> Result<Decision, NoMemory>
-        requires { row_unknown self.now asked.now ≡ None }
-        ensures { IfOk result (λ decision. decision ≡ decide_repair self.now asked.now target) }
-    {
-        if let Some(refusal) = self.row_thin(asked) {
-            return Ok(refusal);
-        }
-        if let Some(refusal) = self.row_few(asked, target) {
-            return Ok(refusal);
-        }
-        let mending = self.mending(asked, target)?;
-        Ok(decision_by(self.alloc, target, mending))
-    }
-
-    /// Refuses to mend an object of which the sets show fewer entries than a quorum.
-    #[tactic(auto, unfolding(crate::specs::Rows::row_few))]
-    fn row_few(&self, asked: &Asked, target: ObjectId) -> Option<Decision>
-        ensures enough { IfNone result (quorum self.now.keys.bounds ≤ length (shown_of asked.now target)) }
-        ensures value { result ≡ row_few self.now asked.now target }
-    {
-        if asked.sets.entries(target) < self.keys.bounds().q() {
-            Some(refuse(self.alloc, Refusal::Thin(target)))
-        } else {
-            None
-        }
-    }
-
-    /// What it makes of a request to mend an object that has a quorum of entries.
-    fn mending(&self, asked: &Asked, target: ObjectId) -> Result<Mending, NoMemory>
-        requires { quorum self.now.keys.bounds ≤ length (shown_of asked.now target) }
-        ensures { IfOk result (λ made. made ≡ mending_on self.now asked.now target) }
-    {
-        let bounds = self.keys.bounds();
-        let mend = Mend::of(
-            self.alloc,
-            asked.sets,
-            asked.set,
-            target,
-            asked.client,
-            &bounds,
-        )?;
-        let remedies = mend.remedies(self.alloc, asked.sets, &bounds)?;
-        let parts = self.parts(asked, remedies.as_slice())?;
-        mend.decide(self.alloc, parts.as_slice())
-    }
-
-    /// The objects that are mended so, each with what the replica has of it.
-    fn parts(
-        &self,
-        asked: &Asked,
-        remedies: &[(ObjectId, Remedy)],
-    ) -> Result<List<Part<'a>>, NoMemory>
-        ensures { IfOk result (λ parts. parts ≡ map (part_of self.now asked.now) remedies.now) }
-    {
-        let mut parts = List::new(self.alloc);
-        for mended in remedies {
-            parts.push(self.part(asked, mended.0, mended.1))?;
-        }
-        Ok(parts)
-    }
-
-    #[tactic(auto, using(qu_history::proofs::Method::latest_of_none))]
-    fn part(&self, asked: &Asked, object: ObjectId, remedy: Remedy) -> Part<'a>
-        ensures { result ≡ part_of self.now asked.now (object, remedy) }
-    {
-        Part {
-            object,
-            latest: asked.sets.latest(object).unwrap_or(Stamp::opening()),
-            remedy,
-            own: self.history(object),
-            version: self.wanted_version(object, &remedy),
-        }
-    }
-
-    /// The version that the remedy wants, where the replica has it.
-    fn wanted_version(&self, object: ObjectId, remedy: &Remedy) -> Option<&'a ObjState>
-        ensures { option_copied result ≡ wanted_version self.now object remedy.now }
-    {
-        match remedy.wanted() {
-            Some(stamp) => self.version(object, &stamp),
-            None => None,
-        }
-    }
-
     /// The rows that look for the versions upon which an operation on these objects may rest.
     fn rows_of_base(&self, seen: &[Seen]) -> Result<Option<Decision>, NoMemory>
         ensures versions { IfOk result (λ row. IfNone row
@@ -324,27 +236,5 @@ impl<'a> Rows<'a> {
             Some(history) => history.latest(),
             None => Stamp::opening(),
         }
-    }
-}
-
-/// The decision of a replica that makes this of a request to mend the target.
-fn decision_by(alloc: Global, target: ObjectId, mending: Mending) -> Decision
-    ensures { result ≡ decision_by target mending }
-{
-    match mending {
-        Mending::Mends { stamp, accepted } => mended(target, stamp, accepted),
-        Mending::Holds { stamp } => mended(target, stamp, List::new(alloc)),
-        Mending::Refuses(why) => refuse(alloc, why),
-        Mending::Waits { missing } => Decision::Waits { missing },
-    }
-}
-
-/// The decision to accept these candidates, and to tell the stamp of that of the target.
-fn mended(target: ObjectId, stamp: Stamp, accepted: List<Accepted>) -> Decision
-    ensures { result ≡ Answers (Mended target stamp) accepted }
-{
-    Decision::Answers {
-        verdict: Verdict::Mended(target, stamp),
-        accepted,
     }
 }

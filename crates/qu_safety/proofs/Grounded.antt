@@ -9,8 +9,8 @@ use Rattle.qu_claims.specs.Premises.{MeetsPremises}
 use Rattle.qu_claims.specs.Updates.{NumbersRise}
 use Rattle.qu_runs.specs.Plain.{HaveParts, ArePlain}
 use Rattle.qu_runs.proofs.Digests.Plain.{plain_from}
-use Rattle.qu_laws.proofs.Laws.{laws}
-use Rattle.qu_laws.proofs.JointLaws.{joint_laws}
+use Rattle.qu_claims.specs.Truth.{LinksAreTrue}
+use Rattle.qu_laws.proofs.JointLaws.{laws, joint_laws, links_true}
 use Rattle.qu_values.proofs.Requests.ClientFacts.{ClientFacts}
 use Rattle.qu_runs.proofs.Acts.OneAct.{ActsAreOne, acts_are_one}
 use Rattle.qu_values.proofs.Updating.UpdateFacts.{UpdateFacts, NoneIsRepeated}
@@ -23,6 +23,7 @@ pub record Grounded (trace : Trace) : Type 0 where
   pub one_act : ActsAreOne trace
   pub laws : Laws (setting trace)
   pub joint : Joint (setting trace)
+  pub links : LinksAreTrue trace
   pub facts : UpdateFacts trace
   pub numbers : NumbersRise trace
   pub once : NoneIsRepeated trace
@@ -32,7 +33,7 @@ pub grounded : (trace : Trace) → IsRun trace → HaveParts trace.entries → l
 grounded trace is_run parts few premises =
     let plain : ArePlain trace = plain_from trace parts few premises.unforged in
     let one_act : ActsAreOne trace = acts_are_one trace is_run plain premises.no_collision in
-    let law : Laws (setting trace) = laws trace is_run plain in
+    let law : Laws (setting trace) = laws trace is_run plain premises.no_collision in
     let joint : Joint (setting trace) = joint_laws trace is_run plain premises.no_collision in
     record {
       plain = plain;
@@ -40,6 +41,7 @@ grounded trace is_run parts few premises =
       one_act = one_act;
       laws = law;
       joint = joint;
+      links = links_true trace is_run plain premises.no_collision;
       facts = update_facts trace is_run plain one_act law joint;
       numbers = numbers_rise trace is_run plain one_act law joint;
       once = none_is_repeated trace is_run plain one_act law joint;

@@ -5,7 +5,7 @@ ghost use Rattle.qu_script.specs.Player.{world_fail_at};
 
 use super::fake::fake;
 use qu_base::{ClientId, List, NoMemory, Party, ReplicaId};
-use qu_flow::{Outage, find_waiting, next_letter};
+use qu_flow::{Begin, Outage, find_waiting, next_letter};
 use qu_language::{Bad, BadKind, Line, ScriptFail};
 use qu_trace::{Event, Setup, Trace};
 use qu_world::{EVENT_LIMIT, World, WorldFail};
@@ -17,8 +17,8 @@ use std::marker::Model;
 pub struct Player {
     world: World,
     outage: Outage,
-    /// Every letter below this one was delivered or lost, or goes to a faulty party.
-    next: u64,
+    /// Where the search for the next letter begins.
+    next: Begin,
 }
 
 impl Model for Player {
@@ -44,7 +44,10 @@ impl Player {
         Ok(Player {
             world,
             outage,
-            next: 1,
+            next: Begin {
+                letter: 1,
+                event: 0,
+            },
         })
     }
 
@@ -117,7 +120,10 @@ impl Player {
     {
         let next = next_letter(&self.world.sent(), self.outage.lost())?;
         self.outage.lose(next - 1);
-        self.next = next;
+        self.next = Begin {
+            letter: next,
+            event: 0,
+        };
         Ok(())
     }
 

@@ -161,8 +161,8 @@ module _ (trace : Trace) (laws : Laws (setting trace)) (joint : Joint (setting t
       → HasValue trace object candidate value → slice_get values object.0 ≡ Some value
   value_of_top time within values are object candidate value is_top has =
       let accepted : IsEverAccepted trace object candidate =
-      some-later (setting trace) laws time last within object candidate
-      (accepted_by_decided (setting trace) laws time object candidate
+      some-later (setting trace) laws.lasting time last within object candidate
+      (accepted_by_decided (setting trace) laws.lasting time object candidate
       (top_decided (setting trace) laws joint time object candidate is_top)) in
       let there : ValueAt time object values = are.each object (object_known object candidate accepted) in
       let same : there.candidate ≡ candidate =
@@ -183,7 +183,7 @@ module _ (trace : Trace) (laws : Laws (setting trace)) (joint : Joint (setting t
         let it : (candidate : Candidate) × IsTop (setting trace) 0 object candidate =
         top (setting trace) laws joint 0 (omega arith) object (known_object object below) in
         let who : Acceptor (setting trace) 0 object it.0 =
-        acceptor (setting trace) 0 object it.0 (accepted_by_decided (setting trace) laws 0 object it.0
+        acceptor (setting trace) 0 object it.0 (accepted_by_decided (setting trace) laws.lasting 0 object it.0
         (top_decided (setting trace) laws joint 0 object it.0 it.1)) in
         let is_opening : it.0 ≡ opening = laws.start object who.replica it.0 who.good who.within who.accepted in
         record {
@@ -297,8 +297,8 @@ module _ (trace : Trace) (laws : Laws (setting trace)) (joint : Joint (setting t
           upon_top (setting trace) laws joint time other it.companion its
           (companion_act other it.companion it.is_companion it.accepted) in
           let base_accepted : IsEverAccepted trace other upon.base =
-          some-later (setting trace) laws time last (omega arith) other upon.base
-          (accepted_by_decided (setting trace) laws time other upon.base
+          some-later (setting trace) laws.lasting time last (omega arith) other upon.base
+          (accepted_by_decided (setting trace) laws.lasting time other upon.base
           (top_decided (setting trace) laws joint time other upon.base upon.top)) in
           let same : upon.base ≡ it.base =
           same_accepted trace laws joint other upon.base it.base base_accepted it.base_accepted

@@ -22,7 +22,7 @@ use Rattle.qu_versions.specs.Versions.{has_version}
 use Rattle.qu_mends.specs.declared.accepted.Accepted.{Accepted}
 use Rattle.qu_rows.specs.declared.decision.Decision.{Decision}
 use Rattle.qu_rows.specs.declared.decision.Decision.TheVariants.{Answers, Waits}
-use Rattle.qu_rows.specs.Rows.{Asked, asked_of, asked_at, fresh_group, fresh_act, fresh_stamp, fresh_stamps, is_held, row_unknown, row_thin, row_retry, row_current, row_method, row_version, row_kept, row_time, row_full, row_done, row_told, row_few, accepted_by, base_versions, objects_of, decide_act, decide_ask, decide_repair, decision_on}
+use Rattle.qu_rows.specs.Rows.{Asked, asked_of, asked_at, fresh_group, fresh_act, fresh_stamp, fresh_stamps, is_held, row_unknown, row_thin, row_retry, row_current, row_method, row_version, row_kept, row_time, row_full, row_done, row_told, row_few, row_evidence, accepted_by, base_versions, objects_of, decide_act, decide_ask, decide_repair, decision_on}
 use Rattle.qu_mends.specs.Table.{first_given}
 use Rattle.qu_rows.specs.Waiting.{TakenRequest}
 use Rattle.qu_rows.specs.State.{ReplicaState, without_waiting, one_more}
@@ -58,7 +58,7 @@ done_bare state asked parts objects =
 
 decides_bare : (state : ReplicaState) (asked : Asked) (asks : Body)
     → decision_on state asked asks ≡ decision_on (without_waiting state) asked asks
-unfolding decide_act decide_ask decide_repair row_unknown row_thin row_retry row_current row_method row_version row_kept row_time row_full row_told row_few is_held
+unfolding decide_act decide_ask decide_repair row_unknown row_thin row_retry row_current row_method row_version row_kept row_time row_full row_told row_few row_evidence is_held
 decides_bare state asked (body.Act parts) =
     ap (λ (row : Option Decision). first_given (Waits []) (
     row_unknown state asked

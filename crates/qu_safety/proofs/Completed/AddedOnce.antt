@@ -1,5 +1,5 @@
--- What a reply adds under a stamp, where a version was found there before, is that version; what it holds has versions.
-use Rattle.std.proofs.Common.{◌≡◌, ℕ, ◌<◌, ◌+◌, not, List, [], ◌∷◌, length, Some, sym, ap, subst, ◌∙◌, arith}
+-- What a reply adds under a stamp, where a version was found there before, is that version.
+use Rattle.std.proofs.Common.{◌≡◌, ℕ, ◌<◌, ◌+◌, List, [], ◌∷◌, length, Some, sym, ap, subst, ◌∙◌, arith}
 use Rattle.std.specs.List.{AllByRecursion}
 use Rattle.qu_base.specs.declared.party.ClientId.{ClientId}
 use Rattle.qu_base.specs.declared.party.ObjectId.{ObjectId}
@@ -22,11 +22,11 @@ use Rattle.qu_claims.specs.Values.{HasVersion}
 use Rattle.qu_runs.specs.Plain.{ArePlain}
 use Rattle.qu_replies.specs.Replies.{IsReplyTo}
 use Rattle.qu_replies.proofs.RepliesInRuns.{reply_accepts}
-use Rattle.qu_replies.proofs.Retries.{AddsWhatIsFound, HasVersions}
+use Rattle.qu_replies.proofs.Retries.{AddsWhatIsFound}
 use Rattle.qu_values.proofs.Updating.UpdateFacts.{UpdateFacts}
 use Rattle.qu_values.proofs.Updating.Updates.{same_accepted}
 use Rattle.qu_values.proofs.Versions.EverAccepted.{once_accepted}
-use Rattle.qu_values.proofs.Versions.StoredValues.{found_upon, added_of_stamps, stored_upon}
+use Rattle.qu_values.proofs.Versions.StoredValues.{found_upon, added_of_stamps}
 
 module _ (trace : Trace) (is_run : IsRun trace) (have : ArePlain trace) (laws : Laws (setting trace))
     (joint : Joint (setting trace)) (facts : UpdateFacts trace) (at : ℕ) (below : at < length trace.entries) where
@@ -64,10 +64,3 @@ module _ (trace : Trace) (is_run : IsRun trace) (have : ArePlain trace) (laws : 
         (stored_all reply.accepted)
         ((reply_accepts trace is_run have at below replica client number round given reply).versions
         ∙ ap (λ (it : ReplicaState). it.versions) (accept_all-is mid reply.accepted)))
-
-    pub has_versions : HasVersions (reply.handles).mid
-    unfolding setting
-    has_versions object candidate plain held =
-        let stored = stored_upon trace laws joint is_run have at below replica reply.old reply.new reply.handles object
-        candidate (ap not plain) held in
-        (stored.0, stored.1)

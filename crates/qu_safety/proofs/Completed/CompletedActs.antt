@@ -50,7 +50,8 @@ use Rattle.qu_values.proofs.Versions.EverAccepted.{place_ever, held_ever}
 use Rattle.qu_rounds.proofs.Members.{is_among, members_count}
 use Rattle.qu_replies.proofs.RepliesInRuns.{IsActOn, act_of_update, done_in_run, already_in_run}
 use Rattle.qu_safety.proofs.Completed.KeptParts.{KeptPart, kept_part}
-use Rattle.qu_safety.proofs.Completed.AddedOnce.{adds_what_is_found, has_versions}
+use Rattle.qu_safety.proofs.Completed.AddedOnce.{adds_what_is_found}
+use Rattle.qu_values.proofs.Versions.HeldVersions.{held_upon}
 use Rattle.qu_values.proofs.Versions.StoredValues.{version_is}
 use Rattle.qu_values.proofs.Updating.UpdateFacts.{UpdateFacts}
 use Rattle.qu_rounds.proofs.Verdicts.{fits_act, equal_done, equal_already}
@@ -111,7 +112,7 @@ module _ (trace : Trace) (is_run : IsRun trace) (have : ArePlain trace) (clients
         subst (λ (it : List (ObjectId × Method)).
         TellsDone reply.new client number (act_digest client number it) it stamps answer) these
         (done_in_run trace is_run have at below replica client number round stamps answer reply
-        (has_versions trace is_run have laws joint facts at below replica client number round given reply)
+        (held_upon trace is_run have at below replica reply.old reply.new reply.handles)
         (adds_what_is_found trace is_run have laws joint facts at below replica client number round given reply)) in
         let handled : IsHandled trace client number parts =
         told_handled trace is_run have clients operation among parts is_act at below replica round given tt reply in
@@ -132,7 +133,7 @@ module _ (trace : Trace) (is_run : IsRun trace) (have : ArePlain trace) (clients
       candidate = it.candidate;
       is_told = it.is_told;
       made = it.made;
-      accepted = accepted-later (setting trace) laws early late order told.0 replica it.candidate it.accepted;
+      accepted = accepted-later (setting trace) laws.lasting early late order told.0 replica it.candidate it.accepted;
       version = it.version;
       has = it.has;
       keeps = it.keeps;
@@ -314,10 +315,10 @@ module _ (trace : Trace) (is_run : IsRun trace) (have : ArePlain trace) (clients
     version = it.version;
     has = it.has;
     keeps = it.keeps;
-    decided = decided-later (setting trace) laws early late order object it.candidate it.decided;
+    decided = decided-later (setting trace) laws.lasting early late order object it.candidate it.decided;
     complete = it.complete;
     upon = it.upon;
-    established = established-later (setting trace) laws early late order object it.complete it.established;
+    established = established-later (setting trace) laws.lasting early late order object it.complete it.established;
   }
 
   -- on each of its objects by the event of a reply that tells it

@@ -123,7 +123,7 @@ module _ (trace : Trace) (is_run : IsRun trace) (have : ArePlain trace) (clients
   unfolding setting
   held_later time at order place state is_state object candidate accepted =
       sym (test_at-here (accepts object candidate) (world_after trace at).replicas place state is_state) ∙
-      accepted-later (setting trace) laws time at order object place candidate accepted
+      accepted-later (setting trace) laws.lasting time at order object place candidate accepted
 
   module _ (client : ClientId) (number round before : ℕ) (stamps : List (ObjectId × Stamp)) (answer : Answer)
       (time : ℕ) where
@@ -245,7 +245,7 @@ module _ (trace : Trace) (is_run : IsRun trace) (have : ArePlain trace) (clients
         → IsEstablished (setting trace) time object base
     unfolding setting
     established_by object base enough =
-        let few : (setting trace).faults ≤ trace.setup.bounds = laws.sizes.borne in
+        let few : (setting trace).faults ≤ trace.setup.bounds = laws.lasting.sizes.borne in
         omega (arith, few, enough)
 
     -- the version of the base is the one that the member stores
@@ -305,9 +305,9 @@ module _ (trace : Trace) (is_run : IsRun trace) (have : ArePlain trace) (clients
         let established : IsEstablished (setting trace) time object base =
         established_by client number round before stamps answer time object base shown.2 in
         let accepted : IsEverAccepted trace object base =
-        some-later (setting trace) laws time (length trace.entries) within object base
-        (accepted_by_attested (setting trace) laws time object base
-        (attested_by_established (setting trace) laws time object base established)) in
+        some-later (setting trace) laws.lasting time (length trace.entries) within object base
+        (accepted_by_attested (setting trace) laws.lasting time object base
+        (attested_by_established (setting trace) laws.lasting time object base established)) in
         let who : Acceptor (setting trace) (length trace.entries) object base =
         acceptor (setting trace) (length trace.entries) object base accepted in
         let is_known : (setting trace).known object ≡ true =

@@ -99,7 +99,7 @@ module _ (trace : Trace) (is_run : IsRun trace) (have : ArePlain trace) (laws : 
         (same_culled trace at replica reply.old reply.new handles reply.sets) ∙ method_kept) in
         let later : acceptors (setting trace) handles.since object kept.base
         ≤ acceptors (setting trace) at object kept.base =
-        acceptors-later (setting trace) laws handles.since at handles.came object kept.base in
+        acceptors-later (setting trace) laws.lasting handles.since at handles.came object kept.base in
         omega (arith, at_first, later)
 
     base_established : IsEstablished (setting trace) at object kept.base
@@ -107,7 +107,7 @@ module _ (trace : Trace) (is_run : IsRun trace) (have : ArePlain trace) (laws : 
     base_established =
         let shown : quorum trace.setup.bounds
         ≤ acceptors (setting trace) at object kept.base + (setting trace).faults = base_shown in
-        let few : (setting trace).faults ≤ trace.setup.bounds = laws.sizes.borne in
+        let few : (setting trace).faults ≤ trace.setup.bounds = laws.lasting.sizes.borne in
         omega (arith, shown, few)
 
     base_ever : IsEverAccepted trace object kept.base

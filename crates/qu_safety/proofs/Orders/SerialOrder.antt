@@ -184,7 +184,7 @@ module _ (trace : Trace) (is_run : IsRun trace) (have : ArePlain trace) (clients
       let same : (found.1).companion ≡ candidate =
       one_companion trace laws joint here.object object here.candidate (found.1).companion candidate
       (found.1).is_companion one (found.1).accepted
-      (accepted_by_decided (setting trace) laws (setting trace).last object candidate decided) in
+      (accepted_by_decided (setting trace) laws.lasting (setting trace).last object candidate decided) in
       let versions : (found.1).version ≡ version =
       facts.one_version object candidate (found.1).version version
       (subst (λ (it : Candidate). HasVersion trace object it (found.1).version) same (found.1).has) has in
@@ -229,7 +229,7 @@ module _ (trace : Trace) (is_run : IsRun trace) (have : ArePlain trace) (clients
       ap (op_answer (values_after trace.setup.kinds (take at order))) (sym (here.stands).op ∙ done.is_act) ∙
       act_answers_at update time (values_after trace.setup.kinds (take at order)) are turn done.object done.candidate
       done.is_of
-      (decided-later (setting trace) laws (reply - 1) (setting trace).last (omega (arith, last_is trace, ends))
+      (decided-later (setting trace) laws.lasting (reply - 1) (setting trace).last (omega (arith, last_is trace, ends))
       done.object
       done.candidate done.decided) done.version done.has answer done.keeps
 

@@ -69,8 +69,8 @@ module _ (trace : Trace) (laws : Laws (setting trace)) (joint : Joint (setting t
   accepted_by : (time : ℕ) → time ≤ (setting trace).last → (object : ObjectId) (candidate : Candidate)
       → IsDecided (setting trace) time object candidate → IsEverAccepted trace object candidate
   accepted_by time within object candidate decided =
-      some-later (setting trace) laws time (setting trace).last within object candidate
-      (accepted_by_decided (setting trace) laws time object candidate decided)
+      some-later (setting trace) laws.lasting time (setting trace).last within object candidate
+      (accepted_by_decided (setting trace) laws.lasting time object candidate decided)
 
   -- a candidate of the update is decided at this time
   pub record HasEffect (time : ℕ) (update : Update) : Type 0 where
@@ -113,7 +113,7 @@ module _ (trace : Trace) (laws : Laws (setting trace)) (joint : Joint (setting t
   not_at_first object candidate is_act decided =
       let who : Acceptor (setting trace) 0 object candidate =
       acceptor (setting trace) 0 object candidate
-      (accepted_by_decided (setting trace) laws 0 object candidate decided) in
+      (accepted_by_decided (setting trace) laws.lasting 0 object candidate decided) in
       let is_opening : candidate ≡ opening = laws.start object who.replica candidate who.good who.within who.accepted in
       opening_no_act trace candidate is_opening is_act
 
@@ -136,7 +136,7 @@ module _ (trace : Trace) (laws : Laws (setting trace)) (joint : Joint (setting t
       absurd (not_at_first object candidate is_act decided)
   decided_first (suc end) within object candidate is_act decided =
       let late : IsDecided (setting trace) (setting trace).last object candidate =
-      decided-later (setting trace) laws (suc end) (setting trace).last within object candidate decided in
+      decided-later (setting trace) laws.lasting (suc end) (setting trace).last within object candidate decided in
       let here : (it : Candidate) × IsTop (setting trace) end object it =
       top (setting trace) laws joint end (omega arith) object
       (known_object trace laws joint one_act facts once object
@@ -220,7 +220,7 @@ module _ (trace : Trace) (laws : Laws (setting trace)) (joint : Joint (setting t
             first_of (setting trace) laws joint Update (IsOf trace) (one_of trace one_act) facts.shared
             facts.spread once (acts trace) update time object candidate is_of turn
             it.object it.candidate it.is_of
-            (decided-later (setting trace) laws earlier time (omega arith) it.object it.candidate it.decided);
+            (decided-later (setting trace) laws.lasting earlier time (omega arith) it.object it.candidate it.decided);
       }
 
   -- the point of an operation at a step that decides its update

@@ -25,7 +25,7 @@ use Rattle.qu_runs.proofs.Acts.OneAct.{ActsAreOne}
 use Rattle.qu_values.proofs.Updating.UpdateFacts.{IsUnder, NoneIsRepeated}
 use Rattle.qu_claims.specs.Truth.{IsAncestorOrSelf, IsWritten}
 use Rattle.qu_values.proofs.Updating.Updates.{acts, opening_no_act, one_of, same_accepted}
-use Rattle.qu_values.proofs.Versions.Values.{row_upon, IsUpdated, version_induction, version_cases, own_row, other_row, own_rest, own_prior, updated, not_opening, IsCopyOf}
+use Rattle.qu_values.proofs.Versions.Values.{row_upon, IsUpdated, version_induction, version_cases, own_row, other_row, own_rest, own_prior, updated, not_opening, IsCopyOf, copied_row}
 use Rattle.qu_stamp.specs.Stamp.{is_below}
 
 -- a row of the client with a number from this one on
@@ -52,7 +52,7 @@ module _ (trace : Trace) (laws : Laws (setting trace)) (joint : Joint (setting t
     by_base object first candidate base accepted base_accepted prior
         (IsAncestor.through between _ rests_on plain attested under) =
         let between_accepted : IsEverAccepted trace object between =
-        accepted_by_attested (setting trace) laws (setting trace).last object between attested in
+        accepted_by_attested (setting trace) laws.lasting (setting trace).last object between attested in
         let same : between ≡ base =
         same_accepted trace laws joint object between base between_accepted base_accepted (sym rests_on ∙ prior) in
         inr (subst (IsUnder trace object first) same under)
@@ -70,7 +70,7 @@ module _ (trace : Trace) (laws : Laws (setting trace)) (joint : Joint (setting t
         let itself : candidate.prior ≡ candidate.stamp =
         ap (λ (it : Candidate). it.prior) begins ∙ ap (λ (it : Candidate). it.stamp) (sym begins) in
         let between_accepted : IsEverAccepted trace object between =
-        accepted_by_attested (setting trace) laws (setting trace).last object between attested in
+        accepted_by_attested (setting trace) laws.lasting (setting trace).last object between attested in
         let is_opening : between ≡ opening =
         same_accepted trace laws joint object between candidate between_accepted also (sym rests_on ∙ itself)
         ∙ begins in
@@ -154,14 +154,16 @@ module _ (trace : Trace) (laws : Laws (setting trace)) (joint : Joint (setting t
 
     -- a copy is of no update, and keeps what its base keeps
     keeps_copied : (object : ObjectId) (candidate : Candidate) (state : ObjState)
-        (copy : IsCopyOf trace object candidate state) → KeepsAll object copy.base state
+        (copy : IsCopyOf trace object candidate state) → KeepsAll object copy.base copy.before
         → KeepsAll object candidate state
     keeps_copied object candidate state copy so_far first update accepted is_of (inl same) =
         absurd (false≢true (sym copy.no_act ∙ ap (setting trace).is_act (sym same)
         ∙ acts trace update object first is_of))
     keeps_copied object candidate state copy so_far first update accepted is_of (inr under) =
+        let it : KeepsFrom update.client update.number copy.before =
         so_far first update accepted is_of
-        (by_base object first candidate copy.base accepted copy.base_accepted copy.prior under)
+        (by_base object first candidate copy.base accepted copy.base_accepted copy.prior under) in
+        (it.0, copied_row trace object candidate state copy update.client ∙ it.1, it.2)
 
     pub keeps : (object : ObjectId) (candidate : Candidate) (state : ObjState)
         → HasVersion trace object candidate state → IsEverAccepted trace object candidate
@@ -240,7 +242,7 @@ module _ (trace : Trace) (laws : Laws (setting trace)) (joint : Joint (setting t
             | inl opens ↦ absurd (not_opening candidate below opens.1)
             | inr on ↦
                 let within : on.first.time < last = on.first.within in
-                attested-later (setting trace) laws on.first.time last (omega arith) object lower on.attested
+                attested-later (setting trace) laws.lasting on.first.time last (omega arith) object lower on.attested
           ]
 
       -- what is up to the base is under the candidate
@@ -278,13 +280,13 @@ module _ (trace : Trace) (laws : Laws (setting trace)) (joint : Joint (setting t
 
       written_copied : (object : ObjectId) (candidate : Candidate) (state : ObjState)
           (copy : IsCopyOf trace object candidate state) → IsEverAccepted trace object candidate
-          → AreWritten object copy.base state → AreWritten object candidate state
+          → AreWritten object copy.base copy.before → AreWritten object candidate state
       written_copied object candidate state copy accepted so_far client row found =
           written_under object copy.base candidate client row
           (λ first up_to.
           on_base object candidate copy.base first accepted copy.plain copy.below copy.base_accepted
-          (versioned_plain object copy.base state copy.has copy.base_accepted) copy.prior up_to)
-          (so_far client row found)
+          (versioned_plain object copy.base copy.before copy.has copy.base_accepted) copy.prior up_to)
+          (so_far client row (sym (copied_row trace object candidate state copy client) ∙ found))
 
       module _ (object : ObjectId) (candidate : Candidate) (state : ObjState)
           (made : IsUpdated trace object candidate state) (has : HasVersion trace object candidate state)

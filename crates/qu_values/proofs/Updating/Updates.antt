@@ -9,7 +9,8 @@ use Rattle.qu_chain.specs.Laws.{Laws}
 use Rattle.qu_chain.specs.Joint.{Joint}
 use Rattle.qu_claims.specs.Groups.{InGroup, IsOneAct}
 use Rattle.qu_chain.proofs.Groups.{companion_is, members_agree}
-use Rattle.qu_chain.proofs.Parents.{First, first_new, one_candidate}
+use Rattle.qu_chain.proofs.Parents.{First, first_new}
+use Rattle.qu_chain.proofs.Ancestry.{one_candidate}
 use Rattle.qu_trace.specs.declared.trace.Trace.{Trace}
 use Rattle.qu_claims.specs.RunSetting.{setting}
 use Rattle.qu_claims.specs.Updates.{Update, IsOf, IsEverAccepted}
@@ -46,8 +47,8 @@ module _ (trace : Trace) (laws : Laws (setting trace)) (joint : Joint (setting t
   pub same_accepted : (object : ObjectId) (candidate other : Candidate) → IsEverAccepted trace object candidate
       → IsEverAccepted trace object other → candidate.stamp ≡ other.stamp → candidate ≡ other
   same_accepted object candidate other accepted also same =
-      one_candidate (setting trace) laws joint (setting trace).last (setting trace).last (omega arith) (omega arith)
-      object candidate other accepted also same
+      one_candidate (setting trace) laws.lasting joint.one (setting trace).last (setting trace).last (omega arith)
+      (omega arith) object candidate other accepted also same
 
   -- a candidate has one companion on an object
   pub one_companion : (object other : ObjectId) (candidate first second : Candidate)

@@ -1,5 +1,5 @@
 -- The updates of a run are as the values along the order ask: a group is of one update, and none is done upon itself.
-use Rattle.std.proofs.Common.{List, ◌≡◌, ◌⊎◌, true, false, not, length, Some, sym, ap, subst, ◌∙◌, arith, inl, inr, ℕ, ◌≤◌, ◌<◌}
+use Rattle.std.proofs.Common.{List, ◌≡◌, refl, ◌⊎◌, true, false, not, length, Some, sym, ap, subst, ◌∙◌, arith, inl, inr, ℕ, ◌≤◌, ◌<◌}
 use Rattle.std.specs.Prelude.{is_some, Option}
 use Rattle.std.proofs.lemmas.Bool.{cases_eq}
 use Rattle.qu_objects.specs.declared.act.Method.{Method}
@@ -41,6 +41,7 @@ use Rattle.qu_values.proofs.Versions.SteppedVersions.{plain_of_method}
 use Rattle.qu_values.proofs.Updating.Updates.{acts, opening_no_act, same_accepted}
 use Rattle.qu_values.proofs.Updating.UpdateFacts.{HasValue, MadeFor, UpdateFacts, NoneIsRepeated}
 use Rattle.qu_values.proofs.Versions.Values.{one_version}
+use Rattle.qu_kept.specs.Performing.{copied_state}
 use Rattle.qu_grounds.proofs.Together.{added_together, member_added, IsMemberAt, member_at}
 use Rattle.qu_chain.proofs.Parents.{parent}
 use Rattle.qu_frames.specs.declared.frame.Body.{Body}
@@ -219,10 +220,10 @@ module _ (trace : Trace) (is_run : IsRun trace) (have : ArePlain trace) where
               (sym prior ∙ ap (λ (it : Candidate). it.prior) begins ∙ ap (λ (it : Candidate). it.stamp) (sym begins)))
               has
           | inr upon ↦ record {
-            version = has.version;
-            has = HasVersion.of_copy object candidate base has.version
+            version = copied_state object candidate has.version;
+            has = HasVersion.of_copy object candidate base has.version (copied_state object candidate has.version)
                 (ap (λ (it : Stamp). is_below it candidate.stamp) (upon.link).prior ∙ (upon.link).below) plain not_act
-                prior base_accepted has.has;
+                prior base_accepted has.has refl;
             value_is = has.value_is;
           }
         ]

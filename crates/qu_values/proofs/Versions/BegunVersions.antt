@@ -1,4 +1,4 @@
--- Versions that replicas store, and those with which a run begins.
+-- The versions with which a run begins: the opening one of each object.
 use Rattle.std.proofs.Common.{◌≡◌, ℕ, zero, suc, ◌+◌, Bool, true, false, ◌&&◌, cond, List, [], ◌∷◌, Some, inl, inr, refl, sym, ap, subst, ◌∙◌, arith, Option, zero-add}
 use Rattle.std.specs.Prelude.{◌==◌, slice_get}
 use Rattle.std.proofs.lemmas.Bool.{false≢true, cases_Bool, or_cases, or_left, and_from, and_parts, eq-eqb, eqb-true}
@@ -30,20 +30,14 @@ use Rattle.qu_claims.specs.Times.{world_after}
 use Rattle.qu_stamp.specs.declared.stamp.Stamp.{Stamp}
 use Rattle.qu_values.proofs.Versions.EverAccepted.{held_accepted}
 
--- the replica stores the version of the candidate
-abbrev pub Stores : Trace → ObjectId → ReplicaState → Candidate → Type 0
-Stores trace object state candidate =
-    (version : ObjState) × (version_at object candidate.stamp state.versions ≡ Some version) × HasVersion trace object
-    candidate version
+-- the replica finds a version under the stamp
+abbrev pub Finds : ObjectId → Stamp → ReplicaState → Type 0
+Finds object stamp state = (version : ObjState) × (version_at object stamp state.versions ≡ Some version)
 
--- a replica that stores the versions of all candidates without barrier that it holds; whatever it stores is the version
--- of its stamp
-pub record IsVersioned (trace : Trace) (time : ℕ) (state : ReplicaState) : Type 0 where
-  pub bounds : state.keys.bounds ≡ trace.setup.bounds
-  pub of_stamps : (object : ObjectId) (stamp : Stamp) (version : ObjState)
-      → version_at object stamp state.versions ≡ Some version → IsVersionOf trace time object stamp version
-  pub stores : (object : ObjectId) (candidate : Candidate) → (setting trace).plain candidate ≡ true
-      → holds candidate (own_candidates state object) ≡ true → Stores trace object state candidate
+-- and so for each candidate without barrier that it holds
+abbrev pub FindsHeld : ReplicaState → Type 0
+FindsHeld state = (object : ObjectId) (candidate : Candidate) → candidate.stamp.barrier ≡ false
+    → holds candidate (own_candidates state object) ≡ true → Finds object candidate.stamp state
 
 -- ---- at the beginning
 
@@ -51,7 +45,6 @@ pub record IsVersioned (trace : Trace) (time : ℕ) (state : ReplicaState) : Typ
 record IsBegun (first : ℕ) (kinds : List KindName) (object : ObjectId) (place : ℕ)
     (candidate : Candidate) : Type 0 where
   kind : KindName
-  is_kind : slice_get kinds place ≡ Some kind
   alone : opening ≡ candidate
   fresh : version_at object opening_stamp (opening_store first kinds) ≡ Some (opening_version kind)
 
@@ -69,7 +62,6 @@ later_begun first kind kinds object place candidate at later =
           absurd (omega arith)
       | inr there ↦ record {
         kind = later.kind;
-        is_kind = later.is_kind;
         alone = later.alone;
         fresh = ap (λ (b : Bool). cond b (Some (opening_version kind))
             (version_at object opening_stamp (opening_store (first + 1) kinds))) there ∙ later.fresh;
@@ -93,7 +85,6 @@ begun_from me first (kind ∷ kinds) object zero candidate at held =
     let equal : first ≡ object.0 = omega arith in
     record {
       kind = kind;
-      is_kind = refl;
       alone = only_opening candidate held;
       fresh = ap (λ (b : Bool). cond b (Some (opening_version kind))
           (version_at object opening_stamp (opening_store (first + 1) kinds)))
@@ -113,17 +104,6 @@ kept_kinds setup number place kind is =
         → slice_get setup.kinds place ≡ Some kind
     kept true found = absurd (none-some kind found)
     kept false found = found
-
-begun_stores : (trace : Trace) (me : ReplicaId) (object : ObjectId) (candidate : Candidate)
-    → IsBegun 0 (kinds_at trace.setup me.0) object object.0 candidate → Stores trace object
-    (replica_at_start me (ring_of trace.setup) (kinds_at trace.setup me.0)) candidate
-begun_stores trace me object candidate begun =
-    subst (Stores trace object (replica_at_start me (ring_of trace.setup) (kinds_at trace.setup me.0)))
-    begun.alone (
-      opening_version begun.kind,
-      begun.fresh,
-      HasVersion.of_opening object begun.kind (kept_kinds trace.setup me.0 object.0 begun.kind begun.is_kind),
-    )
 
 -- ---- what is found at the beginning
 
@@ -182,8 +162,14 @@ module _ (trace : Trace) (me : ReplicaId) where
   abbrev pub at_start : ReplicaState
   at_start = replica_at_start me (ring_of trace.setup) (kinds_at trace.setup me.0)
 
+  pub begun_finds : FindsHeld at_start
+  begun_finds object candidate plain held =
+      let begun : IsBegun 0 (kinds_at trace.setup me.0) object object.0 candidate =
+      begun_from me 0 (kinds_at trace.setup me.0) object object.0 candidate (omega arith) held in
+      subst (λ (it : Candidate). Finds object it.stamp at_start) begun.alone (opening_version begun.kind, begun.fresh)
+
   module _ (is_state : slice_get (world_after trace 0).replicas me.0 ≡ Some at_start) where
-    begun_of_stamp : (object : ObjectId) (stamp : Stamp) (version : ObjState)
+    pub begun_of_stamp : (object : ObjectId) (stamp : Stamp) (version : ObjState)
         → version_at object stamp at_start.versions ≡ Some version → IsVersionOf trace 0 object stamp version
     begun_of_stamp object stamp version found =
         let kinds : List KindName = kinds_at trace.setup me.0 in
@@ -202,11 +188,3 @@ module _ (trace : Trace) (me : ReplicaId) where
           has = HasVersion.of_opening object it.kind
               (kept_kinds trace.setup me.0 object.0 it.kind (ap (slice_get kinds) place ∙ it.is_kind));
         })
-
-    pub opening-versioned : IsVersioned trace 0 at_start
-    opening-versioned = record {
-      bounds = refl;
-      of_stamps = begun_of_stamp;
-      stores = λ object candidate plain held. begun_stores trace me object candidate
-          (begun_from me 0 (kinds_at trace.setup me.0) object object.0 candidate (omega arith) held);
-    }

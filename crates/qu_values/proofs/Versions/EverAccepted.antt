@@ -50,7 +50,7 @@ module _ (trace : Trace) (laws : Laws (setting trace)) (time : ℕ) (within : ti
       → IsEverAccepted trace object candidate
   unfolding setting
   once_accepted object candidate accepted =
-      some-later (setting trace) laws time (length trace.entries) within object candidate accepted
+      some-later (setting trace) laws.lasting time (length trace.entries) within object candidate accepted
 
   pub place_ever : (place : ℕ) → place < replicas trace.setup.bounds → (object : ObjectId) (candidate : Candidate)
       → (setting trace).accepted time object place candidate ≡ true → IsEverAccepted trace object candidate
@@ -68,7 +68,7 @@ module _ (trace : Trace) (laws : Laws (setting trace)) (time : ℕ) (within : ti
       → IsEverAccepted trace object candidate
   unfolding setting
   quorum_ever object candidate enough =
-      let few : (setting trace).faults ≤ trace.setup.bounds = laws.sizes.borne in
-      some-later (setting trace) laws time (length trace.entries) within object candidate
-      (accepted_by_attested (setting trace) laws time object candidate
-      (attested_by_established (setting trace) laws time object candidate (omega (arith, few, enough))))
+      let few : (setting trace).faults ≤ trace.setup.bounds = laws.lasting.sizes.borne in
+      some-later (setting trace) laws.lasting time (length trace.entries) within object candidate
+      (accepted_by_attested (setting trace) laws.lasting time object candidate
+      (attested_by_established (setting trace) laws.lasting time object candidate (omega (arith, few, enough))))

@@ -1,4 +1,5 @@
--- What an event stores with the candidates that it makes a replica accept: their versions.
+-- What an event stores with the candidates that it makes a replica accept: their versions, where what the replica finds
+-- is that of its stamps.
 use Rattle.std.proofs.Common.{◌≡◌, ℕ, ◌+◌, ◌<◌, ◌≤◌, true, false, List, length, Some, inl, inr, refl, sym, ap, subst, ◌∙◌, arith, Option, not, None, ◌++◌, is_some}
 use Rattle.std.specs.List.{AllByRecursion}
 use Rattle.std.proofs.lemmas.Bool.{false≢true}
@@ -10,6 +11,7 @@ use Rattle.qu_stamp.proofs.Order.{is_below-self, is_below_by_time}
 use Rattle.qu_history.specs.History.{ObjectHistory}
 use Rattle.qu_history.specs.Sets.{entries_of, method_at}
 use Rattle.qu_objects.specs.declared.state.ObjState.{ObjState}
+use Rattle.qu_kept.specs.Performing.{copied_state}
 use Rattle.qu_frames.specs.declared.frame.Body.TheVariants as body
 use Rattle.qu_rows.specs.State.{ReplicaState}
 use Rattle.qu_fitting.specs.Holding.{stored_if}
@@ -25,7 +27,7 @@ use Rattle.qu_stamp.specs.declared.stamp.Stamp.{Stamp}
 use Rattle.qu_accepts.proofs.Handled.{made_for}
 use Rattle.qu_claims.specs.Handled.{IsHandled}
 use Rattle.qu_claims.specs.Parts.{Names}
-use Rattle.qu_claims.specs.Grounds.{IsGround, Accepts, Performs, IsRemedy, IsMade, copied_on, Mends, MendsOn, mended_objects, stored_mended}
+use Rattle.qu_claims.specs.Grounds.{IsGround, Accepts, Performs, IsRemedy, made_stamp, Mends, MendsOn, mended_objects, stored_mended}
 use Rattle.qu_claims.specs.Times.{world_after}
 use Rattle.qu_claims.specs.Updates.{IsEverAccepted}
 use Rattle.qu_claims.specs.Values.{HasVersion}
@@ -39,28 +41,22 @@ use Rattle.qu_values.proofs.Versions.EverAccepted.{once_accepted, quorum_ever}
 use Rattle.qu_history.specs.declared.sets.SetOf.{SetOf}
 use Rattle.qu_claims.specs.Carried.{handed}
 use Rattle.qu_frames.specs.declared.frame.Frame.{Frame}
-use Rattle.qu_grounds.proofs.Performed.{version_of_performed, version_of_mended}
 use Rattle.qu_chain.proofs.Parents.{parent}
 use Rattle.qu_history.proofs.Method.{method_at_plain}
 use Rattle.qu_objects.specs.declared.act.Method.{Method}
 use Rattle.qu_chain.proofs.Ancestry.{some-later, accepted_by_attested}
 use Rattle.qu_base.specs.declared.party.Digest.{Digest}
-use Rattle.qu_values.proofs.Versions.BegunVersions.{Stores, IsVersioned}
 use Rattle.std.proofs.Common.{[], ◌∷◌}
-use Rattle.std.proofs.lemmas.Bool.{cases_eq, or_cases}
-use Rattle.std.proofs.lemmas.Option.{same_Some}
-use Rattle.qu_stamp.specs.Candidate.{same}
-use Rattle.qu_stamp.proofs.Order.{equal_by_same}
+use Rattle.std.proofs.lemmas.Bool.{cases_eq}
 use Rattle.qu_history.specs.History.{holds}
-use Rattle.qu_history.proofs.Rising.{holds_push, holds_pushed}
+use Rattle.qu_history.proofs.Rising.{holds_pushed}
 use Rattle.qu_rows.specs.State.{own_candidates}
 use Rattle.qu_claims.specs.Setting.{IsNew}
 use Rattle.qu_accepts.proofs.Handled.{handled}
 use Rattle.qu_claims.specs.Grounds.{Reasons, AddsTo, IsDelivered}
-use Rattle.qu_grounds.proofs.Parts.{Lists, listed_mended, adds_or_not}
+use Rattle.qu_grounds.proofs.Parts.{Lists}
 use Rattle.qu_laws.proofs.Laws.{new_accepted}
 use Rattle.qu_values.proofs.Versions.EverAccepted.{held_accepted, held_ever}
-use Rattle.qu_grounds.proofs.Performed.{stored_before}
 use Rattle.qu_frames.specs.declared.frame.Body.{Body}
 use Rattle.qu_versions.specs.declared.stored.Stored.{Stored}
 use Rattle.std.proofs.lemmas.List.{drop_at}
@@ -68,11 +64,24 @@ use Rattle.std.specs.Prelude.{drop}
 use Rattle.qu_claims.specs.Grounds.{stored_of}
 use Rattle.qu_claims.specs.Handling.{Handles}
 use Rattle.qu_claims.specs.Grounds.{IsDelivered}
-use Rattle.qu_versions.proofs.Lookup.{append_grows}
 use Rattle.qu_accepts.proofs.Handled.{culls_so}
+use Rattle.qu_accepts.proofs.Handling.{mid_bounds}
+use Rattle.qu_accepts.proofs.StoredSo.{AreSo, AreAdded}
 use Rattle.qu_accepts.proofs.KnownObjects.{delivered_known}
 use Rattle.std.proofs.lemmas.Option.{get_or_from_slice_get}
-use Rattle.qu_runs.proofs.Worlds.OpeningReplicas.{bounds_are}
+
+-- what is among the objects that are mended is mended
+listed_named : {X : Type 0} (parts : List (ObjectId × X)) (object : ObjectId) → Lists (objects_of parts) object
+    → Names parts object
+listed_named [] object never = never
+listed_named (part ∷ later) object (inl same) = inl same
+listed_named (part ∷ later) object (inr there) = inr (listed_named later object there)
+
+listed_mended : (target : ObjectId) (group : List (ObjectId × ℕ)) (object : ObjectId)
+    → Lists (mended_objects target group) object → MendsOn target group object
+listed_mended target [] object (inl same) = same
+listed_mended target [] object (inr never) = absurd never
+listed_mended target (member ∷ later) object listed = listed_named (member ∷ later) object listed
 
 -- the version of the stamp of an accepted candidate is that of the candidate
 pub version_of_stamp : (trace : Trace) → Laws (setting trace) → Joint (setting trace) → (count : ℕ)
@@ -92,9 +101,17 @@ later_of_stamp trace laws early late order object stamp version it = record {
   candidate = it.candidate;
   under = it.under;
   plain = it.plain;
-  accepted = some-later (setting trace) laws early late order object it.candidate it.accepted;
+  accepted = some-later (setting trace) laws.lasting early late order object it.candidate it.accepted;
   has = it.has;
 }
+
+-- all that the replica finds are versions of their stamps
+abbrev pub AreOfStamps : (trace : Trace) → Laws (setting trace) → ℕ → ReplicaState → Type 0
+AreOfStamps trace laws count state = AreSo trace (IsVersionOf trace) (later_of_stamp trace laws) count state
+
+-- what is added to its versions are those of their stamps
+abbrev pub AddsOfStamps : (trace : Trace) → Laws (setting trace) → ℕ → ReplicaState → ReplicaState → Type 0
+AddsOfStamps trace laws count old new = AreAdded trace (IsVersionOf trace) (later_of_stamp trace laws) count old new
 
 -- ---- lists of versions
 
@@ -114,7 +131,7 @@ plain_of_method trace bounds entries base is = ap not (method_at_plain bounds en
 module _ (trace : Trace) (laws : Laws (setting trace)) (joint : Joint (setting trace)) (is_run : IsRun trace)
     (have : ArePlain trace) (count : ℕ) (below : count < length trace.entries) (place : ℕ) (old new : ReplicaState)
     (handles : Handles trace count place old new) (one : Accepts handles.mid new handles.carried)
-    (before : IsVersioned trace count handles.mid) where
+    (before : AreOfStamps trace laws count handles.mid) where
   abbrev mid : ReplicaState
   mid = handles.mid
 
@@ -156,44 +173,12 @@ module _ (trace : Trace) (laws : Laws (setting trace)) (joint : Joint (setting t
         })
       ]
 
-  new_bounds : new.keys.bounds ≡ trace.setup.bounds
-  new_bounds = bounds_are trace (count + 1) place new handles.is_new
-
-  -- what it found it still finds
-  grown : (asks : Body)
-      → Reasons mid new (asked_of one.client one.number one.sets asks) asks one.group one.candidates
-      → (more : List Stored) × (new.versions ≡ mid.versions ++ more)
-  grown (body.Act parts) performs = (_, performs.stored)
-  grown (body.Ask parts) never = absurd never
-  grown (body.Mend target) mends = (_, mends.stored)
-
-  still_there : (object : ObjectId) (stamp : Stamp) (version : ObjState)
-      → version_at object stamp mid.versions ≡ Some version → version_at object stamp new.versions ≡ Some version
-  still_there object stamp version found =
-      let more : (more : List Stored) × (new.versions ≡ mid.versions ++ more) = grown one.asks one.reasons in
-      append_grows mid.versions more.0 new.versions more.1 object stamp version found
-
-  still_stores : (object : ObjectId) (candidate : Candidate) → Stores trace object mid candidate
-      → Stores trace object new candidate
-  still_stores object candidate stored =
-      (stored.0, still_there object candidate.stamp stored.0 stored.1, stored.2)
-
   -- the version that the replica finds under the stamp of an accepted candidate is that candidate's
   version_under : (object : ObjectId) (base : Candidate) → IsEverAccepted trace object base → (version : ObjState)
       → version_at object base.stamp mid.versions ≡ Some version → HasVersion trace object base version
   version_under object base ever version found =
       version_of_stamp trace laws joint count within object base version ever
-      (before.of_stamps object base.stamp version found)
-
-  -- and it still finds it
-  still_found : (object : ObjectId) (candidate : Candidate) → IsEverAccepted trace object candidate
-      → (version : ObjState) → version_at object candidate.stamp mid.versions ≡ Some version
-      → Stores trace object new candidate
-  still_found object candidate ever version found = (
-    version,
-    still_there object candidate.stamp version found,
-    version_under object candidate ever version found,
-  )
+      (before object base.stamp version found)
 
   -- ---- of an act
 
@@ -221,7 +206,8 @@ module _ (trace : Trace) (laws : Laws (setting trace)) (joint : Joint (setting t
           (delivered_known trace count place old new object (delivered_on object adds)) object (performs.bases object)
           (ap (λ (sets : List SetOf). method_at trace.setup.bounds (entries_of object sets))
           (culls_so trace is_run count below place old new object (delivered_on object adds))
-          ∙ ap (λ (bounds : ℕ). method_at bounds (entries_of object one.sets)) (sym before.bounds)
+          ∙ ap (λ (bounds : ℕ). method_at bounds (entries_of object one.sets))
+          (sym (mid_bounds trace count place old new handles))
           ∙ (performs.grounds object names).method))
 
       -- the version that the replica stores under the stamp of the base is that of the base
@@ -257,31 +243,14 @@ module _ (trace : Trace) (laws : Laws (setting trace)) (joint : Joint (setting t
           base_version (performs.performed).values ((performs.performed).afters object names)
           (performs.performed).lower
 
-      -- it is found afterwards, unless the version of the candidate was there before
-      stores_by : (object : ObjectId) → Names parts object → (found : Option ObjState)
-          → version_at object (one.candidates object).stamp mid.versions ≡ found
-          → Stores trace object new (one.candidates object)
-      stores_by object names (Some version) is_found =
-          still_found object (one.candidates object) (now_accepted object (adds_part object names)) version is_found
-      stores_by object names None none = (
-        performs.versions object,
-        version_of_performed mid new (asked_of one.client one.number one.sets (body.Act parts)) parts
-            one.candidates performs object names none,
-        act_has object names,
-      )
-
-      act_stores : (object : ObjectId) → Names parts object → Stores trace object new (one.candidates object)
-      act_stores object names =
-          stores_by object names (version_at object (one.candidates object).stamp mid.versions) refl
-
   -- ---- of a repair
 
-  -- the version of a copy is that of its prior
-  copy_has : (target : ObjectId) (copy : Candidate) (version : ObjState)
+  -- the version of a copy is made of that of its prior
+  copy_has : (target : ObjectId) (copy : Candidate) (its : ObjState)
       → (setting trace).plain copy ≡ true → (setting trace).is_act copy ≡ false → IsEverAccepted trace target copy
-      → is_below opening.stamp copy.stamp ≡ true
-      → version_at target copy.prior mid.versions ≡ Some version → HasVersion trace target copy version
-  copy_has target copy version plain no_act ever above found =
+      → is_below opening.stamp copy.stamp ≡ true → version_at target copy.prior mid.versions ≡ Some its
+      → HasVersion trace target copy (copied_state target copy its)
+  copy_has target copy its plain no_act ever above found =
       elim (parent (setting trace) laws (setting trace).last (omega arith) target copy ever plain) [
         | inl begins ↦
             absurd (false≢true (sym (is_below-self opening.stamp)
@@ -290,55 +259,30 @@ module _ (trace : Trace) (laws : Laws (setting trace)) (joint : Joint (setting t
             let base : Candidate = (upon.link).base in
             let first : upon.first.time < (setting trace).last = (upon.first).within in
             let base_ever : IsEverAccepted trace target base =
-            some-later (setting trace) laws upon.first.time (setting trace).last (omega (arith, first)) target base
-            (accepted_by_attested (setting trace) laws upon.first.time target base (upon.link).attested) in
-            HasVersion.of_copy target copy base version
+            some-later (setting trace) laws.lasting upon.first.time (setting trace).last (omega (arith, first)) target
+            base (accepted_by_attested (setting trace) laws.lasting upon.first.time target base (upon.link).attested) in
+            HasVersion.of_copy target copy base its (copied_state target copy its)
             (ap (λ (it : Stamp). is_below it copy.stamp) (upon.link).prior ∙ (upon.link).below) plain no_act
             (upon.link).prior base_ever
-            (version_under target base base_ever version
-            (ap (λ (it : Stamp). version_at target it mid.versions) (sym (upon.link).prior) ∙ found))
+            (version_under target base base_ever its
+            (ap (λ (it : Stamp). version_at target it mid.versions) (sym (upon.link).prior) ∙ found)) refl
       ]
 
   -- so is that of a copy which the replica makes
-  copied_has : (asked : Asked) (objects : List ObjectId) (target : ObjectId) (candidate : Candidate)
-      (version : ObjState) → asked.act ≡ None → (setting trace).plain candidate ≡ true
-      → IsMade mid.keys.bounds asked objects target candidate → IsEverAccepted trace target candidate
-      → version_at target candidate.prior mid.versions ≡ Some version → HasVersion trace target candidate version
+  copied_has : (asked : Asked) (target : ObjectId) (candidate : Candidate) (its : ObjState) → asked.act ≡ None
+      → (setting trace).plain candidate ≡ true
+      → candidate.stamp ≡ made_stamp asked target candidate.stamp.barrier → IsEverAccepted trace target candidate
+      → version_at target candidate.prior mid.versions ≡ Some its
+      → HasVersion trace target candidate (copied_state target candidate its)
   unfolding setting
-  copied_has asked objects target candidate version no_act plain made ever found =
-      copy_has target candidate version plain
-      (ap (λ (act : Option Digest). is_some act) (ap (λ (it : Stamp). it.act) (made.stamp) ∙ no_act)) ever
+  copied_has asked target candidate its no_act plain made ever found =
+      copy_has target candidate its plain
+      (ap (λ (act : Option Digest). is_some act) (ap (λ (it : Stamp). it.act) made ∙ no_act)) ever
       (is_below_by_time opening_stamp candidate.stamp (later_time candidate.stamp.time _
-      (ap (λ (it : Stamp). it.time) made.stamp))) found
+      (ap (λ (it : Stamp). it.time) made))) found
     where
       later_time : (time before : ℕ) → time ≡ before + 1 → 0 < time
       later_time time before is_next = omega (arith, is_next)
-
-  mended_stores : (asked : Asked) (object : ObjectId) (candidate : Candidate) (found : Option ObjState)
-      → asked.act ≡ None → IsRemedy mid asked object candidate found
-      → ((version : ObjState) → found ≡ Some version → version_at object candidate.stamp mid.versions ≡ None
-      → version_at object candidate.stamp new.versions ≡ Some version)
-      → (setting trace).plain candidate ≡ true → IsEverAccepted trace object candidate
-      → Stores trace object new candidate
-  unfolding setting
-  mended_stores asked object candidate found no_act (IsRemedy.inline_barrier barrier shown) stored plain ever =
-      absurd (false≢true (ap not (sym barrier) ∙ plain))
-  mended_stores asked object candidate found no_act (IsRemedy.inline_method its kind shown is) stored plain ever =
-      still_found object candidate ever its is
-  mended_stores asked object candidate found no_act (IsRemedy.barrier barrier made) stored plain ever =
-      absurd (false≢true (ap not (sym barrier) ∙ plain))
-  mended_stores asked object candidate found no_act
-      (IsRemedy.copy latest its kind made together barrier is_latest full is) stored plain ever =
-      by_found (version_at object candidate.stamp mid.versions) refl
-    where
-      by_found : (held : Option ObjState) → version_at object candidate.stamp mid.versions ≡ held
-          → Stores trace object new candidate
-      by_found (Some held) is_held = still_found object candidate ever held is_held
-      by_found None none = (
-        its,
-        stored its refl none,
-        copied_has asked (copied_on mid.keys.bounds asked object) object candidate its no_act plain made ever is,
-      )
 
   -- the version of a candidate without barrier that the request adds is that of its stamp
   fresh_of_stamp : (object : ObjectId) → AddsTo one.asks one.group object
@@ -355,70 +299,6 @@ module _ (trace : Trace) (laws : Laws (setting trace)) (joint : Joint (setting t
         accepted = held_accepted trace (count + 1) place new handles.is_new object fresh (now_held object adds);
         has = has;
       }
-
-  -- what the request adds is stored with its version
-  added_stores : (asks : Body) → one.asks ≡ asks
-      → Reasons mid new (asked_of one.client one.number one.sets asks) asks one.group one.candidates
-      → (object : ObjectId) → AddsTo asks one.group object → (setting trace).plain (one.candidates object) ≡ true
-      → Stores trace object new (one.candidates object)
-  added_stores (body.Act parts) is reasons object names plain = act_stores parts is reasons object names
-  added_stores (body.Ask parts) is reasons object never plain = absurd never
-  added_stores (body.Mend target) is reasons object mended plain =
-      let asked : Asked = asked_of one.client one.number one.sets (body.Mend target) in
-      let ever : IsEverAccepted trace object (one.candidates object) =
-      now_accepted object (subst (λ (asks : Body). AddsTo asks one.group object) (sym is) mended) in
-      mended_stores asked object (one.candidates object) (reasons.versions object) refl (reasons.remedy object mended)
-      (λ version has none.
-      version_of_mended mid new one.candidates reasons.versions target one.group object version reasons.stored mended
-      has none) plain ever
-
-  one_stores : (object : ObjectId) → AddsTo one.asks one.group object
-      → (candidate : Candidate) → (setting trace).plain candidate ≡ true
-      → holds candidate (own_candidates new object) ≡ true → Stores trace object new candidate
-  one_stores object adds candidate plain held =
-      let fresh : Candidate = one.candidates object in
-      elim (or_cases _ _ (sym (holds_push candidate fresh (own_candidates mid object)) ∙ ap (holds candidate)
-      (sym (one.added object adds)) ∙ held)) [
-        | inl earlier ↦
-            still_stores object candidate (before.stores object candidate plain earlier)
-        | inr last ↦ elim (or_cases (same fresh candidate) false last) [
-          | inl is ↦
-              let equal : fresh ≡ candidate = equal_by_same fresh candidate is in
-              subst (Stores trace object new) equal
-              (added_stores one.asks refl one.reasons object adds (ap (setting trace).plain equal ∙ plain))
-          | inr never ↦ absurd (false≢true never)
-        ]
-      ]
-
-  moved_stores : (object : ObjectId) (candidate : Candidate) → (setting trace).plain candidate ≡ true
-      → holds candidate (own_candidates new object) ≡ true → Stores trace object new candidate
-  moved_stores object candidate plain held =
-      elim (adds_or_not one.asks one.group object) [
-        | inr not_added ↦ still_stores object candidate
-            (before.stores object candidate plain (ap (holds candidate) (sym (one.others object not_added)) ∙ held))
-        | inl adds ↦ one_stores object adds candidate plain held
-      ]
-
-  -- what it finds afterwards it found before, or it is the version of what the request adds
-  moved_of_stamp : (object : ObjectId) (stamp : Stamp) (version : ObjState)
-      → version_at object stamp new.versions ≡ Some version → IsVersionOf trace (count + 1) object stamp version
-  unfolding setting
-  moved_of_stamp object stamp version found =
-      elim (stored_before mid new (asked_of one.client one.number one.sets one.asks) one.asks one.group
-      one.candidates one.reasons object stamp version found) [
-        | inl earlier ↦
-            later_of_stamp trace laws count (count + 1) (omega arith) object stamp version
-            (before.of_stamps object stamp version earlier)
-        | inr added ↦
-            let fresh : Candidate = one.candidates object in
-            let stored : Stores trace object new fresh =
-            added_stores one.asks refl one.reasons object added.adds (ap not added.plain) in
-            let found_so : Some stored.0 ≡ Some version =
-            sym stored.1 ∙ ap (λ (it : Stamp). version_at object it new.versions) added.under ∙ found in
-            subst (λ (it : Stamp). IsVersionOf trace (count + 1) object it version) added.under
-            (fresh_of_stamp object added.adds added.plain version
-            (subst (HasVersion trace object fresh) (same_Some stored.0 version found_so) stored.2))
-      ]
 
   -- ---- the versions that the request adds
 
@@ -439,17 +319,17 @@ module _ (trace : Trace) (laws : Laws (setting trace)) (joint : Joint (setting t
       )
 
   mend_adds : (target object : ObjectId) → AddsTo one.asks one.group object → (found : Option ObjState)
-      → IsRemedy mid (asked_of one.client one.number one.sets (body.Mend target)) object (one.candidates object) found
-      → AllByRecursion IsTrue (stored_if object (one.candidates object).stamp found)
+      → IsRemedy mid (asked_of one.client one.number one.sets (body.Mend target)) target object (one.candidates object)
+      found → AllByRecursion IsTrue (stored_if object (one.candidates object).stamp found)
   unfolding setting
   mend_adds target object adds found (IsRemedy.inline_barrier barrier shown) = tt
   mend_adds target object adds found (IsRemedy.inline_method its plain shown found_so) = tt
   mend_adds target object adds found (IsRemedy.barrier barrier made) = tt
-  mend_adds target object adds found (IsRemedy.copy latest its plain made together barrier is_latest full is) =
-      let asked : Asked = asked_of one.client one.number one.sets (body.Mend target) in (
-        fresh_of_stamp object adds plain its
-            (copied_has asked (copied_on mid.keys.bounds asked object) object (one.candidates object) its refl
-            (ap not plain) made (now_accepted object adds) is),
+  mend_adds target object adds found
+      (IsRemedy.copy latest plan its plain planned named made barrier is_latest full is) = (
+        fresh_of_stamp object adds plain (copied_state object (one.candidates object) its)
+            (copied_has (asked_of one.client one.number one.sets (body.Mend target)) object (one.candidates object) its
+            refl (ap not plain) made.stamp (now_accepted object adds) is),
         tt,
       )
 
@@ -472,20 +352,20 @@ module _ (trace : Trace) (laws : Laws (setting trace)) (joint : Joint (setting t
       (mends.versions object) (mends.remedy object mended))
       (mends_add target is mends later (λ other there. among other (inr there)))
 
-  pub request_adds : (asks : Body) → one.asks ≡ asks
+  request_adds : (asks : Body) → one.asks ≡ asks
       → Reasons mid new (asked_of one.client one.number one.sets asks) asks one.group one.candidates
-      → (more : List Stored) → new.versions ≡ mid.versions ++ more → AllByRecursion IsTrue more
-  request_adds (body.Act parts) is reasons more adds =
-      subst (AllByRecursion IsTrue) (same_behind mid.versions _ more (sym reasons.stored ∙ adds))
-      (act_adds parts is reasons parts (λ object names. names))
-  request_adds (body.Ask parts) is reasons more adds = absurd reasons
-  request_adds (body.Mend target) is reasons more adds =
-      subst (AllByRecursion IsTrue) (same_behind mid.versions _ more (sym reasons.stored ∙ adds))
-      (mends_add target is reasons (mended_objects target one.group) (listed_mended target one.group))
-
-  pub moved-versioned : IsVersioned trace (count + 1) new
-  moved-versioned = record {
-    bounds = new_bounds;
-    of_stamps = moved_of_stamp;
-    stores = moved_stores;
+      → AddsOfStamps trace laws (count + 1) mid new
+  request_adds (body.Act parts) is performs = record {
+    more = stored_of one.candidates performs.versions parts;
+    versions = performs.stored;
+    each = act_adds parts is performs parts (λ object names. names);
   }
+  request_adds (body.Ask parts) is never = absurd never
+  request_adds (body.Mend target) is mends = record {
+    more = stored_mended one.candidates mends.versions (mended_objects target one.group);
+    versions = mends.stored;
+    each = mends_add target is mends (mended_objects target one.group) (listed_mended target one.group);
+  }
+
+  pub moved_adds : AddsOfStamps trace laws (count + 1) mid new
+  moved_adds = request_adds one.asks refl one.reasons

@@ -18,7 +18,7 @@ use Rattle.qu_objects.specs.declared.state.KeptRow.{KeptRow}
 use Rattle.qu_objects.specs.declared.state.ObjState.{ObjState}
 use Rattle.qu_objects.specs.Kind.{fresh_value}
 use Rattle.qu_objects.specs.Performing.{performed_values}
-use Rattle.qu_kept.specs.Performing.{row_by, links_to_others, state_after}
+use Rattle.qu_kept.specs.Performing.{row_by, links_to_others, state_after, copied_state}
 use Rattle.qu_kept.specs.Rows.{client_of, row_of}
 use Rattle.qu_kept.specs.Standing.{IsLower}
 use Rattle.qu_kept.proofs.KeyedLaws.{own_item, other_item}
@@ -73,7 +73,7 @@ abbrev pub row_upon : Update → (ObjectId → ObjState) → KeptRow
 row_upon update states =
     row_by update.client update.number update.parts (values_on (λ (it : ObjectId). (states it).value) update.parts)
 
--- a copy has the version of its base
+-- how a copy has the version of its base, with its own links
 pub record IsCopyOf (trace : Trace) (object : ObjectId) (candidate : Candidate) (version : ObjState) : Type 0 where
   pub base : Candidate
   pub below : is_below candidate.prior candidate.stamp ≡ true
@@ -81,7 +81,9 @@ pub record IsCopyOf (trace : Trace) (object : ObjectId) (candidate : Candidate) 
   pub no_act : (setting trace).is_act candidate ≡ false
   pub prior : candidate.prior ≡ base.stamp
   pub base_accepted : IsEverAccepted trace object base
-  pub has : HasVersion trace object base version
+  pub before : ObjState
+  pub has : HasVersion trace object base before
+  pub after : version ≡ copied_state object candidate before
 
 -- how a candidate of an update has its version
 pub record IsUpdated (trace : Trace) (object : ObjectId) (candidate : Candidate) (version : ObjState) : Type 0 where
@@ -105,7 +107,7 @@ pub version_induction : (trace : Trace) (P : ObjectId → Candidate → ObjState
     → ((object : ObjectId) (candidate : Candidate) (version : ObjState) → IsFresh trace object candidate version
     → P object candidate version)
     → ((object : ObjectId) (candidate : Candidate) (version : ObjState)
-    → (copy : IsCopyOf trace object candidate version) → P object copy.base version → P object candidate version)
+    → (copy : IsCopyOf trace object candidate version) → P object copy.base copy.before → P object candidate version)
     → ((object : ObjectId) (candidate : Candidate) (version : ObjState)
     → (made : IsUpdated trace object candidate version)
     → ((other : ObjectId) → Names (made.update).parts other → P other (made.bases other) (made.befores other))
@@ -115,7 +117,7 @@ pub version_induction : (trace : Trace) (P : ObjectId → Candidate → ObjState
 version_induction trace P begins copies goes object candidate version (HasVersion.of_opening _ kind is_kind) =
     begins object candidate version (record { kind = kind; is_kind = is_kind; is_opening = refl; fresh = refl })
 version_induction trace P begins copies goes object candidate version
-    (HasVersion.of_copy _ it base state below plain no_act prior accepted has) =
+    (HasVersion.of_copy _ it base before state below plain no_act prior accepted has after) =
     copies object candidate version (record {
       base = base;
       below = below;
@@ -123,8 +125,10 @@ version_induction trace P begins copies goes object candidate version
       no_act = no_act;
       prior = prior;
       base_accepted = accepted;
+      before = before;
       has = has;
-    }) (version_induction trace P begins copies goes object base version has)
+      after = after;
+    }) (version_induction trace P begins copies goes object base before has)
 version_induction trace P begins copies goes object candidate version
     (HasVersion.of_update _ it update bases befores afters made below is_of rests has values after lower) =
     goes object candidate version (record {
@@ -176,6 +180,12 @@ updated trace object candidate version has is_act =
         | inr made ↦ made
       ]
     ]
+
+-- the version of a copy has the rows of its base's
+pub copied_row : (trace : Trace) (object : ObjectId) (candidate : Candidate) (version : ObjState)
+    (copy : IsCopyOf trace object candidate version) (client : ClientId)
+    → row_of client version.kept ≡ row_of client (copy.before).kept
+copied_row trace object candidate version copy client = ap (λ (it : ObjState). row_of client it.kept) copy.after
 
 -- ---- what the version of an updated candidate has
 
@@ -308,17 +318,20 @@ module _ (trace : Trace) (laws : Laws (setting trace)) (joint : Joint (setting t
 
     copy_only : (object : ObjectId) (candidate : Candidate) (first second : ObjState)
         (one : IsCopyOf trace object candidate first)
-        → ((it : ObjState) → HasVersion trace object one.base it → first ≡ it)
+        → ((it : ObjState) → HasVersion trace object one.base it → one.before ≡ it)
         → HasVersion trace object candidate second → first ≡ second
     copy_only object candidate first second one only held =
         elim (version_cases trace object candidate second held) [
           | inl fresh ↦ absurd (not_opening candidate one.below fresh.is_opening)
           | inr later ↦ elim (later) [
             | inl copy ↦
-                only second
-                (subst (λ (base : Candidate). HasVersion trace object base second)
-                (same_accepted trace laws joint object copy.base one.base copy.base_accepted one.base_accepted
-                (sym copy.prior ∙ one.prior)) copy.has)
+                let bases : copy.base ≡ one.base =
+                same_accepted trace laws joint object copy.base one.base copy.base_accepted one.base_accepted
+                (sym copy.prior ∙ one.prior) in
+                let same : one.before ≡ copy.before =
+                only copy.before (subst (λ (base : Candidate). HasVersion trace object base copy.before) bases copy.has)
+                in
+                one.after ∙ ap (copied_state object candidate) same ∙ sym copy.after
             | inr made ↦ absurd (not_of_both trace object candidate first second one made)
           ]
         ]

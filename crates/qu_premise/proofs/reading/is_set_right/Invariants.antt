@@ -4,6 +4,6 @@ use Rattle.qu_history.specs.Culling.{is_right}
 use Rattle.qu_premise.proofs.reading.is_set_right.Given as goal
 
 -- the entries so far are right
-abbrev pub invariant-loop-sealed : goal.invariant-loop-sealed
-invariant-loop-sealed l =
-    list_all (is_right l.keys l.me) (drop l.sealed-index l.entries) ≡ list_all (is_right l.keys l.me) l.entries
+abbrev pub invariant-loop-place : goal.invariant-loop-place
+invariant-loop-place l =
+    list_all (is_right l.keys l.me) (drop l.place l.entries) ≡ list_all (is_right l.keys l.me) l.entries

@@ -13,4 +13,4 @@ returns c premises =
     let it : Grounded trace =
     grounded trace c.requires (subst HaveParts c.as_slice.ensures c.have_parts.ensures.parts)
     (subst (λ (entries : List Entry). length entries < 2 ^ 63) c.as_slice.ensures c.have_parts.ensures.few) premises in
-    true_versions trace c.requires it.plain it.laws it.joint it.facts
+    true_versions trace c.requires it.plain it.laws it.joint it.facts it.links

@@ -1,0 +1,6 @@
+pub mod Made
+pub mod CopiesAgree
+pub mod ActsAgree
+pub mod HowMade
+pub mod Alike
+pub mod Agreed

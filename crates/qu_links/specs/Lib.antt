@@ -1,0 +1,5 @@
+pub mod Over
+pub mod Making
+pub mod Listing
+pub mod Copying
+pub mod Closing
