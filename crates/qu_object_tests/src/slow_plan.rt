@@ -12,11 +12,17 @@ use std::test::Fail;
 fn slow_link(facts: &[Fact], object: ObjectId, stamp: Stamp, other: ObjectId) -> Option<Stamp> {
     for fact in facts {
         if fact.object == object && fact.stamp == stamp {
-            for link in &fact.links {
-                if link.object == other {
-                    return Some(link.stamp);
-                }
-            }
+            return link_told(fact, other);
+        }
+    }
+    None
+}
+
+/// What a fact tells of another object.
+fn link_told(fact: &Fact, other: ObjectId) -> Option<Stamp> {
+    for link in &fact.links {
+        if link.object == other {
+            return Some(link.stamp);
         }
     }
     None
