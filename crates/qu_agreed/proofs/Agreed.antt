@@ -12,7 +12,6 @@ use Rattle.qu_objects.specs.Digesting.{act_digest}
 use Rattle.qu_objects.specs.Kind.{opening_version}
 use Rattle.qu_kept.specs.Performing.{copied_state}
 use Rattle.qu_class.specs.Class.{is_in_sets}
-use Rattle.qu_frames.specs.declared.frame.Body.TheVariants as body
 use Rattle.qu_versions.specs.Versions.{version_at}
 use Rattle.qu_rows.specs.Rows.{Asked, act_asked}
 use Rattle.qu_rows.specs.State.{ReplicaState}

@@ -11,9 +11,9 @@ use Rattle.qu_stamp.specs.declared.candidate.Candidate.{Candidate}
 use Rattle.qu_history.specs.declared.sets.SetOf.{SetOf}
 use Rattle.qu_history.specs.Formats.{sets_form}
 use Rattle.qu_history.specs.Text.{sets_text, sets_digest}
-use Rattle.qu_history.proofs.Unsealed.{entries_of-one, sets_text-one}
+use Rattle.qu_agreed.proofs.Unsealed.{entries_of-one, sets_text-one}
 use Rattle.qu_class.specs.Class.{is_in_sets}
-use Rattle.qu_class.proofs.SameShown.{is_in_same}
+use Rattle.qu_plan.proofs.SameShown.{is_in_same}
 use Rattle.qu_frames.specs.declared.frame.Frame.{Frame}
 use Rattle.qu_frames.specs.Formats.{frame_form}
 use Rattle.qu_fitting.proofs.FitCulled.{culled-fits}

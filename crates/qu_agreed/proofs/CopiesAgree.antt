@@ -16,16 +16,16 @@ use Rattle.qu_objects.specs.declared.state.ObjState.{ObjState}
 use Rattle.qu_kept.specs.Performing.{copied_state}
 use Rattle.qu_versions.specs.Versions.{version_at}
 use Rattle.qu_class.specs.declared.class.Class.TheVariants.{Copy}
-use Rattle.qu_class.specs.declared.plan.CopyPlan.{CopyPlan}
-use Rattle.qu_class.specs.Chosen.{chosen_on}
+use Rattle.qu_plan.specs.declared.plan.CopyPlan.{CopyPlan}
+use Rattle.qu_plan.specs.Chosen.{chosen_on}
 use Rattle.qu_class.specs.Class.{is_in_sets, class_in}
-use Rattle.qu_class.specs.Copying.{plan_of, Names}
-use Rattle.qu_class.specs.Evidence.{evidence_of, AreAlike}
-use Rattle.qu_class.specs.Linking.{Linking, link_in}
+use Rattle.qu_plan.specs.Copying.{plan_of, Names}
+use Rattle.qu_plan.specs.Evidence.{evidence_of, AreAlike}
+use Rattle.qu_plan.specs.Linking.{Linking, link_in}
 use Rattle.qu_class.proofs.ClassRows.{copy_has_quorum}
-use Rattle.qu_class.proofs.Copying.{IsCopied, plan_copies}
+use Rattle.qu_plan.proofs.Copying.{IsCopied, plan_copies}
 use Rattle.qu_class.proofs.GroupRule.{copy_is_own}
-use Rattle.qu_class.proofs.Agreeing.{IsTruePlan, DoAgree, plans_agree}
+use Rattle.qu_plan.proofs.Agreeing.{IsTruePlan, DoAgree, plans_agree}
 use Rattle.qu_rows.specs.Rows.{Asked, shown_of, fresh_stamp, fresh_group, objects_of, linking_of, missing_of}
 use Rattle.qu_rows.specs.State.{ReplicaState}
 use Rattle.qu_claims.specs.Grounds.{IsMade, IsRemedy}

@@ -17,14 +17,14 @@ use Rattle.qu_objects.specs.Performing.{performed_values}
 use Rattle.qu_kept.specs.Performing.{row_by, links_to_others, state_after, copied_state}
 use Rattle.qu_kept.specs.Rows.{row_of}
 use Rattle.qu_kept.specs.Standing.{IsLower}
-use Rattle.qu_class.specs.declared.plan.CopyPlan.{CopyPlan}
-use Rattle.qu_class.specs.declared.plan.PlanFail.{PlanFail}
+use Rattle.qu_plan.specs.declared.plan.CopyPlan.{CopyPlan}
+use Rattle.qu_plan.specs.declared.plan.PlanFail.{PlanFail}
 use Rattle.qu_class.specs.declared.class.Class.TheVariants.{Copy}
-use Rattle.qu_class.specs.Chosen.{chosen_on}
+use Rattle.qu_plan.specs.Chosen.{chosen_on}
 use Rattle.qu_class.specs.Class.{class_in}
-use Rattle.qu_class.specs.Copying.{plan_of}
-use Rattle.qu_class.specs.Evidence.{evidence_of}
-use Rattle.qu_class.specs.Linking.{Linking}
+use Rattle.qu_plan.specs.Copying.{plan_of}
+use Rattle.qu_plan.specs.Evidence.{evidence_of}
+use Rattle.qu_plan.specs.Linking.{Linking}
 use Rattle.qu_class.specs.Repairable.{object_base}
 use Rattle.qu_frames.specs.declared.frame.Body.{Body}
 use Rattle.qu_frames.specs.declared.frame.Body.TheVariants as body

@@ -3,7 +3,7 @@ use Rattle.std.specs.Prelude.{List, map}
 use Rattle.qu_base.specs.declared.party.ObjectId.{ObjectId}
 use Rattle.qu_objects.specs.declared.act.Method.{Method}
 use Rattle.qu_objects.specs.declared.kind.Value.{Value}
-pub use Rattle.qu_class.specs.Copying.{Names}
+pub use Rattle.qu_plan.specs.Copying.{Names}
 
 -- the values of the objects that the parts name
 abbrev pub values_on : (ObjectId → Value) → List (ObjectId × Method) → List Value

@@ -12,7 +12,7 @@ use Rattle.qu_objects.specs.Digesting.{act_digest}
 use Rattle.qu_kept.specs.Rows.{row_of}
 use Rattle.qu_rows.specs.State.{ReplicaState}
 use Rattle.qu_versions.specs.Versions.{version_at}
-use Rattle.qu_class.specs.Linking.{link_in}
+use Rattle.qu_plan.specs.Linking.{link_in}
 use Rattle.qu_trace.specs.declared.trace.Trace.{Trace}
 use Rattle.qu_claims.specs.Links.{LinksAre}
 use Rattle.qu_claims.specs.RunSetting.{setting}

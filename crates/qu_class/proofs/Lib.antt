@@ -2,9 +2,4 @@ pub mod OfKind
 pub mod ClassRows
 pub mod OneClass
 pub mod GroupRule
-pub mod Chosen
-pub mod PlanEvidence
-pub mod Copying
-pub mod SameShown
-pub mod Agreeing
 pub mod BaseOfClass

@@ -84,14 +84,14 @@ fn agrees(sets: &Sets, bounds: &Bounds, candidate: &Candidate, member: (ObjectId
 /// Whether this is the candidate's companion on the object of a member of its group: it has the stamp that the group
 /// lists, and the whole group.
 #[tactic(auto, unfolding(qu_stamp::specs::Stamp::same_stamp))]
-pub(super) fn is_companion(base: &Candidate, candidate: &Candidate, member: (ObjectId, u64)) -> bool
+pub fn is_companion(base: &Candidate, candidate: &Candidate, member: (ObjectId, u64)) -> bool
     ensures { result ≡ is_of_group base.now (listed_stamp candidate.now member) candidate.now.group }
 {
     base.stamp == member_stamp(candidate, member) && base.group == candidate.group
 }
 
 /// The stamp that the candidate's group lists for a member.
-pub(super) fn member_stamp(candidate: &Candidate, member: (ObjectId, u64)) -> Stamp
+pub fn member_stamp(candidate: &Candidate, member: (ObjectId, u64)) -> Stamp
     ensures { result ≡ listed_stamp candidate.now member }
 {
     Stamp {

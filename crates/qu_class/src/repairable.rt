@@ -73,7 +73,7 @@ fn last_of_kind(
 }
 
 /// Whether the candidate is one of those with a barrier, or of those without, and so many of the histories hold it.
-pub(super) fn is_shown_of_kind(
+pub fn is_shown_of_kind(
     sets: &Sets,
     object: ObjectId,
     barrier: bool,

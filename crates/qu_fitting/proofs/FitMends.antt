@@ -10,7 +10,7 @@ use Rattle.qu_stamp.specs.declared.stamp.Stamp.{Stamp}
 use Rattle.qu_stamp.specs.Group.{is_group_size, is_member_from, are_members_from, is_group}
 use Rattle.qu_stamp.specs.Formats.{stamp_form, plain_stamp_form, group_form}
 use Rattle.qu_history.specs.History.{latest}
-use Rattle.qu_history.specs.Sets.{entries_of, latest_of}
+use Rattle.qu_history.specs.Sets.{latest_of}
 use Rattle.qu_objects.specs.declared.state.ObjState.{ObjState}
 use Rattle.qu_frames.specs.declared.verdict.Refusal.{Refusal}
 use Rattle.qu_frames.specs.declared.verdict.Refusal.TheVariants.{UnknownObject, Thin, Needs, Stale, NotCurrent, NotMethod, TimeSpent, HistoryFull, Sound}
@@ -20,7 +20,7 @@ use Rattle.qu_frames.specs.Formats.{verdict_form}
 use Rattle.qu_stamp.specs.declared.candidate.Candidate.{Candidate}
 use Rattle.qu_history.specs.declared.sets.SetOf.{SetOf}
 use Rattle.qu_class.specs.Class.{is_copy, class_in}
-use Rattle.qu_class.specs.Evidence.{is_read, read_key, evidence_of}
+use Rattle.qu_plan.specs.Evidence.{is_read, read_key, evidence_of}
 use Rattle.qu_mends.specs.declared.course.Course.{Course}
 use Rattle.qu_mends.specs.declared.accepted.Accepted.{Accepted}
 use Rattle.qu_mends.specs.declared.remedy.Remedy.{Remedy}

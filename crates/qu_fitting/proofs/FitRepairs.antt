@@ -23,15 +23,15 @@ use Rattle.qu_class.specs.declared.class.Class.{Class}
 use Rattle.qu_class.specs.declared.class.Class.TheVariants.{Method, InlineMethod, Copy, InlineBarrier, Barrier, Needs}
 use Rattle.qu_class.specs.Repairable.{barrier_candidate, object_base}
 use Rattle.qu_class.specs.Class.{is_latest, is_full, barrier_class, class_of, is_in_sets, with_members, class_in}
-use Rattle.qu_class.specs.declared.plan.CopyPlan.{CopyPlan}
-use Rattle.qu_class.specs.declared.plan.PlanFail.{PlanFail}
-use Rattle.qu_class.specs.declared.plan.PlanFail.TheVariants as fail
-use Rattle.qu_class.specs.Chosen.{is_repairable, chosen_on}
-use Rattle.qu_class.specs.Copying.{is_outstanding, plan_of}
-use Rattle.qu_class.specs.Linking.{Linking}
+use Rattle.qu_plan.specs.declared.plan.CopyPlan.{CopyPlan}
+use Rattle.qu_plan.specs.declared.plan.PlanFail.{PlanFail}
+use Rattle.qu_plan.specs.declared.plan.PlanFail.TheVariants as fail
+use Rattle.qu_plan.specs.Chosen.{is_repairable, chosen_on}
+use Rattle.qu_plan.specs.Copying.{is_outstanding, plan_of}
+use Rattle.qu_plan.specs.Linking.{Linking}
 use Rattle.qu_class.proofs.GroupRule.{inline_by}
-use Rattle.qu_class.proofs.Chosen.{chosen_cases}
-use Rattle.qu_class.proofs.Copying.{IsCopied, plan_copies, IsFailed, failed_tells}
+use Rattle.qu_plan.proofs.Chosen.{chosen_cases}
+use Rattle.qu_plan.proofs.Copying.{IsCopied, plan_copies, IsFailed, failed_tells}
 use Rattle.qu_kept.specs.Performing.{links_to_others, copied_state}
 use Rattle.qu_kept.proofs.EachObject.{objects_named}
 use Rattle.qu_kept.proofs.RisingObjects.{IsNumbered}

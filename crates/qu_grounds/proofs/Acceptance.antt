@@ -43,13 +43,13 @@ use Rattle.qu_stamp.specs.Group.{is_group}
 use Rattle.qu_grounds.proofs.Formed.{AreGrouped}
 use Rattle.qu_base.specs.Bounds.{quorum}
 use Rattle.qu_class.specs.Class.{class_in}
-use Rattle.qu_class.specs.declared.plan.CopyPlan.{CopyPlan}
-use Rattle.qu_class.specs.declared.plan.PlanFail.{PlanFail}
-use Rattle.qu_class.specs.declared.plan.PlanFail.TheVariants as why
-use Rattle.qu_class.specs.Chosen.{chosen_on}
-use Rattle.qu_class.specs.Copying.{plan_of}
-use Rattle.qu_class.specs.Linking.{Linking}
-use Rattle.qu_class.proofs.Chosen.{chosen_sound}
+use Rattle.qu_plan.specs.declared.plan.CopyPlan.{CopyPlan}
+use Rattle.qu_plan.specs.declared.plan.PlanFail.{PlanFail}
+use Rattle.qu_plan.specs.declared.plan.PlanFail.TheVariants as why
+use Rattle.qu_plan.specs.Chosen.{chosen_on}
+use Rattle.qu_plan.specs.Copying.{plan_of}
+use Rattle.qu_plan.specs.Linking.{Linking}
+use Rattle.qu_plan.proofs.Chosen.{chosen_sound}
 use Rattle.qu_stamp.specs.declared.stamp.Stamp.{Stamp}
 use Rattle.qu_class.specs.declared.class.Class.{Class}
 use Rattle.qu_class.specs.declared.class.Class.TheVariants as class

@@ -13,14 +13,14 @@ use Rattle.qu_objects.specs.declared.state.ObjState.{ObjState}
 use Rattle.qu_kept.specs.Performing.{copied_state}
 use Rattle.qu_class.specs.declared.class.Class.{Class}
 use Rattle.qu_class.specs.declared.class.Class.TheVariants.{Copy}
-use Rattle.qu_class.specs.declared.plan.CopyPlan.{CopyPlan}
-use Rattle.qu_class.specs.Chosen.{chosen_on}
+use Rattle.qu_plan.specs.declared.plan.CopyPlan.{CopyPlan}
+use Rattle.qu_plan.specs.Chosen.{chosen_on}
 use Rattle.qu_class.specs.Class.{class_in}
-use Rattle.qu_class.specs.Copying.{Names}
-use Rattle.qu_class.specs.Linking.{Linking}
+use Rattle.qu_plan.specs.Copying.{Names}
+use Rattle.qu_plan.specs.Linking.{Linking}
 use Rattle.qu_class.specs.Rows.{AreWellFormed, IsClassOf}
 use Rattle.qu_class.proofs.ClassRows.{copy_has_quorum}
-use Rattle.qu_class.proofs.Copying.{IsCopied, plan_copies}
+use Rattle.qu_plan.proofs.Copying.{IsCopied, plan_copies}
 use Rattle.qu_class.proofs.GroupRule.{OwnTells, copy_is_own, own_tells}
 use Rattle.qu_mends.specs.declared.accepted.Accepted.{Accepted}
 use Rattle.qu_mends.specs.declared.mend.Mend.{Mend}

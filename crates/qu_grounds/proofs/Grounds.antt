@@ -16,9 +16,9 @@ use Rattle.qu_history.proofs.Stamps.{not_below_latest}
 use Rattle.qu_rows.specs.Rows.{Asked, fresh_stamp, asked_of, act_asked, objects_of, linking_of}
 use Rattle.qu_class.specs.Repairable.{object_base}
 use Rattle.qu_rows.specs.State.{ReplicaState, own_candidates, own_latest}
-use Rattle.qu_class.specs.declared.plan.CopyPlan.{CopyPlan}
-use Rattle.qu_class.specs.declared.plan.PlanFail.{PlanFail}
-use Rattle.qu_class.specs.Chosen.{chosen_on}
+use Rattle.qu_plan.specs.declared.plan.CopyPlan.{CopyPlan}
+use Rattle.qu_plan.specs.declared.plan.PlanFail.{PlanFail}
+use Rattle.qu_plan.specs.Chosen.{chosen_on}
 use Rattle.qu_claims.specs.Grounds.{IsGround, Reasons, AddsTo, IsMade, planned_on, made_on, made_upon, IsMadeFrom, IsFound, made_stamp, Performs, IsRemedy}
 use Rattle.qu_rows.proofs.Allowed.{fresh_later}
 use Rattle.qu_frames.specs.declared.frame.Body.{Body}

@@ -17,7 +17,6 @@ use Rattle.qu_claims.specs.Parts.{Names}
 use Rattle.qu_claims.specs.Grounds.{stored_of, Performs, MendsOn, mended_objects, stored_mended}
 use Rattle.qu_rows.specs.Rows.{Asked}
 use Rattle.qu_grounds.proofs.Parts.{Lists, mended_listed}
-use Rattle.qu_frames.specs.declared.frame.Body.TheVariants as body
 
 -- what is found with more versions was found before, or is among these
 pub stored_cases : (object : ObjectId) (stamp : Stamp) (versions more : List Stored) (version : ObjState)

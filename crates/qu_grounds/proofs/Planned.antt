@@ -11,12 +11,12 @@ use Rattle.qu_stamp.specs.Stamp.{same_stamp}
 use Rattle.qu_stamp.specs.Group.{is_group_size, is_member_from, are_members_from, is_group, same_group}
 use Rattle.qu_stamp.proofs.Order.{equal_by_same_stamp}
 use Rattle.qu_history.specs.declared.sets.SetOf.{SetOf}
-use Rattle.qu_class.specs.declared.plan.CopyPlan.{CopyPlan}
-use Rattle.qu_class.specs.Chosen.{chosen_on}
+use Rattle.qu_plan.specs.declared.plan.CopyPlan.{CopyPlan}
+use Rattle.qu_plan.specs.Chosen.{chosen_on}
 use Rattle.qu_class.specs.Class.{is_copy, listed_stamp, is_of_group, class_in}
-use Rattle.qu_class.specs.Copying.{is_joined, joint_part, joint_of, plan_of}
-use Rattle.qu_class.specs.Linking.{Linking}
-use Rattle.qu_class.proofs.Copying.{IsPlan, is_plan}
+use Rattle.qu_plan.specs.Copying.{is_joined, joint_part, joint_of, plan_of}
+use Rattle.qu_plan.specs.Linking.{Linking}
+use Rattle.qu_plan.proofs.Copying.{IsPlan, is_plan}
 use Rattle.qu_mends.specs.Remedy.{chosen_member}
 use Rattle.qu_rows.specs.Rows.{objects_of}
 

@@ -24,20 +24,20 @@ use Rattle.qu_mends.specs.Remedy.{whole_group, copied_at, copy_of, chosen_member
 use Rattle.qu_mends.specs.Causes.{MakesCandidate, AddsVersion}
 use Rattle.qu_class.specs.declared.class.Class.{Class}
 use Rattle.qu_class.specs.declared.class.Class.TheVariants as class
-use Rattle.qu_class.specs.declared.plan.CopyPlan.{CopyPlan}
-use Rattle.qu_class.specs.declared.plan.PlanFail.{PlanFail}
-use Rattle.qu_class.specs.declared.plan.PlanFail.TheVariants as why
-use Rattle.qu_class.specs.Chosen.{chosen_on}
+use Rattle.qu_plan.specs.declared.plan.CopyPlan.{CopyPlan}
+use Rattle.qu_plan.specs.declared.plan.PlanFail.{PlanFail}
+use Rattle.qu_plan.specs.declared.plan.PlanFail.TheVariants as why
+use Rattle.qu_plan.specs.Chosen.{chosen_on}
 use Rattle.qu_class.specs.Class.{is_copy, class_in}
-use Rattle.qu_class.specs.Evidence.{evidence_of}
-use Rattle.qu_class.specs.Copying.{plan_of, Names}
-use Rattle.qu_class.specs.Linking.{Linking}
+use Rattle.qu_plan.specs.Evidence.{evidence_of}
+use Rattle.qu_plan.specs.Copying.{plan_of, Names}
+use Rattle.qu_plan.specs.Linking.{Linking}
 use Rattle.qu_class.specs.Rows.{AreWellFormed, IsLatestOfKind}
 use Rattle.qu_class.proofs.BaseOfClass.{barrier_has_base}
-use Rattle.qu_class.proofs.Copying.{IsCopied, plan_copies}
+use Rattle.qu_plan.proofs.Copying.{IsCopied, plan_copies}
 use Rattle.qu_class.proofs.GroupRule.{OwnTells}
 use Rattle.qu_class.proofs.OfKind.{held_if_repairable}
-use Rattle.qu_class.proofs.PlanEvidence.{object_is}
+use Rattle.qu_plan.proofs.Versions.{object_is}
 use Rattle.qu_base.specs.Bounds.{quorum, repair}
 use Rattle.qu_grounds.proofs.Formed.{AreGrouped}
 use Rattle.qu_grounds.proofs.Planned.{plan_group}

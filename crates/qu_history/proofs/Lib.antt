@@ -1,11 +1,11 @@
 pub mod Rising
+pub mod ByStamp
 pub mod Stamps
 pub mod Greatest
 pub mod Method
 pub mod SetLaws
 pub mod Forms
 pub mod Histories
-pub mod Unsealed
 pub mod CulledSets
 pub mod Shown
 pub mod TrimmedSets

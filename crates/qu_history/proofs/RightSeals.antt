@@ -15,7 +15,7 @@ use Rattle.qu_history.specs.declared.sealed.Sealed.{Sealed}
 use Rattle.qu_history.specs.declared.sets.SetOf.{SetOf}
 use Rattle.qu_history.specs.History.{ObjectHistory}
 use Rattle.qu_history.specs.Culling.{history_digest, mac_is_right, is_right, culled_set, culled, left_of, left_out}
-use Rattle.qu_history.specs.Sealing.{sealed_by, IsSealedBy, are_right}
+use Rattle.qu_history.specs.Sealing.{sealed_by, are_right}
 
 -- ---- one entry
 
@@ -43,13 +43,6 @@ module _ (ring : Ring) (me : ReplicaId) (history : ObjectHistory)
       slice_get-get_or (map make (range_with_len 0 size)) me.0 [] (omega (arith, within, count))
       ∙ ap Some (get_or-map-range_with_len make 0 size me.0 me.0 [] within (omega arith)) in
       and_from _ _ (eq-eqb _ _ count) (ap (mac_is_right ring me history) there ∙ own_is_right)
-
--- what the replica of a history sealed, is right
-pub sealed_right : (ring : Ring) (me : ReplicaId) (sealed : Sealed) → IsSealedBy ring sealed
-    → has_party ring (Replica (sealed.history).replica) ≡ true → has_party ring (Replica me) ≡ true
-    → is_right ring me sealed ≡ true
-sealed_right ring me sealed is from to =
-    ap (is_right ring me) is ∙ sealed_is_right ring me sealed.history from to
 
 -- of a call
 pub right_made : (ring : Ring) (history : ObjectHistory) (macs : List (List ℕ))

@@ -107,10 +107,6 @@ pub holds_pushed : (candidate : Candidate) (candidates : List Candidate)
 holds_pushed candidate candidates =
     holds_push candidate candidate candidates ∙ or_right _ _ (or_left _ _ (same-self candidate))
 
-pub holds_still : (held candidate : Candidate) (candidates : List Candidate) → holds held candidates ≡ true
-    → holds held (candidates ++ candidate ∷ []) ≡ true
-holds_still held candidate candidates before = holds_push held candidate candidates ∙ or_left _ _ before
-
 -- a history with a candidate more, which has room
 pub history_push : (candidates pushed : List Candidate) (candidate : Candidate)
     → pushed ≡ candidates ++ candidate ∷ [] → IsTrue (is_history candidates)

@@ -1,6 +1,6 @@
 -- Sealed histories as their replicas make them (Query/Update: a replica sends each history with an authenticator,
 -- which has an HMAC for each replica).
-use Rattle.std.specs.Prelude.{◌≡◌, Bool, List}
+use Rattle.std.specs.Prelude.{Bool, List}
 use Rattle.std.specs.List.{list_all}
 use Rattle.qu_base.specs.declared.party.ReplicaId.{ReplicaId}
 use Rattle.qu_seal.specs.Keys.{Ring, authenticator_of}
@@ -13,10 +13,6 @@ use Rattle.qu_history.specs.Culling.{history_digest, is_right}
 abbrev pub sealed_by : Ring → ObjectHistory → Sealed
 sealed_by ring history =
     record { history = history; macs = authenticator_of ring history.replica (history_digest history) }
-
--- its replica made the HMACs, by the keys of this ring
-abbrev pub IsSealedBy : Ring → Sealed → Type 0
-IsSealedBy ring sealed = sealed ≡ sealed_by ring sealed.history
 
 -- each entry is right for this reader
 unfoldable pub are_right : Ring → ReplicaId → List SetOf → Bool

@@ -1,5 +1,7 @@
 ghost use Rattle.std.specs.Prelude.{◌≡◌, ◌<◌, ◌≤◌, ◌↔◌, length, [], ◌∷◌, ◌++◌, IsTrue, true, false, IfOk, OnOk, OnErr};
+ghost use Rattle.std.specs.List.Sorted.{IsPartitionPoint};
 ghost use Rattle.qu_stamp.specs.declared.stamp.Stamp.{Stamp};
+ghost use Rattle.qu_stamp.specs.declared.candidate.Candidate.{Candidate as Held};
 ghost use Rattle.qu_stamp.specs.Candidate.{opening};
 ghost use Rattle.qu_stamp.specs.Stamp.{is_below};
 ghost use Rattle.qu_base.specs.Reading.{Gives, IsGiven};
@@ -116,12 +118,16 @@ impl History {
         self.last().stamp
     }
 
-    /// Whether the candidate stands in it.
-    #[tactic(auto, unfolding(qu_stamp::specs::Stamp::same_stamp))]
+    /// Whether the candidate stands in it: since stamps rise, one place alone can have it.
+    #[tactic(auto, unfolding(qu_stamp::specs::Stamp::same_stamp), using(crate::proofs::ByStamp::held_nowhere))]
     pub fn holds(&self, candidate: &Candidate) -> bool
         ensures { result ≡ holds candidate.now self.now.candidates }
     {
-        self.candidates.iter().any(|held| held == candidate)
+        let below = count_below(self.candidates.as_slice(), &candidate.stamp);
+        match self.candidates.get(below) {
+            Some(held) => held == candidate,
+            None => false,
+        }
     }
 
     /// How many candidates it holds, the opening candidate among them.
@@ -218,4 +224,13 @@ impl History {
         }
         written
     }
+}
+
+/// How many candidates of a history have a stamp below this one. They stand in front.
+fn count_below(candidates: &[Candidate], stamp: &Stamp) -> usize
+    requires { IsTrue (is_history candidates.now) }
+    ensures { IsPartitionPoint (λ (held : Held). is_below held.stamp stamp.now ≡ true)
+        (λ (held : Held). is_below held.stamp stamp.now ≡ false) candidates.now result }
+{
+    candidates.partition_point(|held| held.stamp.is_below(stamp))
 }

@@ -9,10 +9,10 @@ use Rattle.qu_stamp.specs.declared.candidate.Candidate.{Candidate}
 use Rattle.qu_stamp.specs.Group.{listed_time}
 use Rattle.qu_history.specs.Sets.{entries_of, order_of, latest_of}
 use Rattle.qu_objects.specs.declared.state.ObjState.{ObjState}
-use Rattle.qu_class.specs.declared.plan.CopyPlan.{CopyPlan}
-use Rattle.qu_class.specs.declared.plan.PlanFail.{PlanFail}
-use Rattle.qu_class.specs.Copying.{plan_of}
-use Rattle.qu_class.specs.Chosen.{chosen_on}
+use Rattle.qu_plan.specs.declared.plan.CopyPlan.{CopyPlan}
+use Rattle.qu_plan.specs.declared.plan.PlanFail.{PlanFail}
+use Rattle.qu_plan.specs.Copying.{plan_of}
+use Rattle.qu_plan.specs.Chosen.{chosen_on}
 use Rattle.qu_rows.specs.Rows.{Asked, fresh_stamp, fresh_group, objects_of, linking_of}
 use Rattle.qu_rows.specs.State.{ReplicaState}
 use Rattle.qu_claims.specs.Grounds.{IsFound, IsMade, IsPlanned, IsRemedy, Mends, MendsOn}

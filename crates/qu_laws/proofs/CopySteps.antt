@@ -22,12 +22,12 @@ use Rattle.qu_objects.specs.declared.act.Method.{Method}
 use Rattle.qu_objects.specs.declared.state.ObjState.{ObjState}
 use Rattle.qu_versions.specs.Versions.{version_at, has_version}
 use Rattle.qu_class.specs.declared.class.Class.TheVariants.{Copy}
-use Rattle.qu_class.specs.declared.plan.CopyPlan.{CopyPlan}
-use Rattle.qu_class.specs.Chosen.{is_repairable, chosen_on}
+use Rattle.qu_plan.specs.declared.plan.CopyPlan.{CopyPlan}
+use Rattle.qu_plan.specs.Chosen.{is_repairable, chosen_on}
 use Rattle.qu_class.specs.Class.{class_in}
-use Rattle.qu_class.specs.Copying.{link_from}
-use Rattle.qu_class.specs.Evidence.{is_read}
-use Rattle.qu_class.specs.Linking.{link_in}
+use Rattle.qu_plan.specs.Copying.{link_from}
+use Rattle.qu_plan.specs.Evidence.{is_read}
+use Rattle.qu_plan.specs.Linking.{link_in}
 use Rattle.qu_class.specs.Rows.{AreWellFormed, MayBeRepaired}
 use Rattle.qu_class.proofs.GroupRule.{copy_in_sets}
 use Rattle.qu_class.proofs.OfKind.{held_if_repairable}

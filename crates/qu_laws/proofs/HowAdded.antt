@@ -9,7 +9,7 @@ use Rattle.qu_stamp.specs.declared.stamp.Stamp.{Stamp}
 use Rattle.qu_stamp.specs.declared.candidate.Candidate.{Candidate}
 use Rattle.qu_objects.specs.declared.state.ObjState.{ObjState}
 use Rattle.qu_versions.specs.Versions.{version_at}
-use Rattle.qu_class.specs.declared.plan.CopyPlan.{CopyPlan}
+use Rattle.qu_plan.specs.declared.plan.CopyPlan.{CopyPlan}
 use Rattle.qu_rows.specs.Rows.{Asked, asked_of}
 use Rattle.qu_rows.specs.State.{ReplicaState}
 use Rattle.qu_frames.specs.declared.frame.Body.{Body}

@@ -13,7 +13,7 @@ use Rattle.qu_stamp.specs.Group.{listed_time}
 use Rattle.qu_objects.specs.declared.state.ObjState.{ObjState}
 use Rattle.qu_frames.specs.declared.frame.Body.TheVariants as body
 use Rattle.qu_versions.specs.Versions.{version_at}
-use Rattle.qu_class.specs.Chosen.{chosen_on}
+use Rattle.qu_plan.specs.Chosen.{chosen_on}
 use Rattle.qu_rows.specs.Rows.{Asked, asked_of, linking_of}
 use Rattle.qu_rows.specs.State.{ReplicaState}
 use Rattle.qu_trace.specs.declared.trace.Trace.{Trace}

@@ -16,14 +16,14 @@ use Rattle.qu_stamp.proofs.Order.{equal_by_same_stamp}
 use Rattle.qu_history.specs.declared.sets.SetOf.{SetOf}
 use Rattle.qu_history.specs.Sets.{entries_of, method_at}
 use Rattle.qu_class.specs.declared.class.Class.TheVariants.{Copy}
-use Rattle.qu_class.specs.declared.plan.CopyPlan.{CopyPlan}
-use Rattle.qu_class.specs.Chosen.{chosen_on}
+use Rattle.qu_plan.specs.declared.plan.CopyPlan.{CopyPlan}
+use Rattle.qu_plan.specs.Chosen.{chosen_on}
 use Rattle.qu_class.specs.Class.{is_copy, listed_stamp, is_of_group, class_in}
-use Rattle.qu_class.specs.Copying.{is_joined, is_at, link_from, is_covered, is_outstanding, plan_fail_at, joint_part, joint_of, plan_of, Names}
-use Rattle.qu_class.specs.Evidence.{reads, is_seen}
-use Rattle.qu_class.specs.Linking.{Linking}
-use Rattle.qu_class.proofs.Chosen.{chosen_reads}
-use Rattle.qu_class.proofs.Copying.{IsCopied, is_plan, plan_copies}
+use Rattle.qu_plan.specs.Copying.{is_joined, is_at, link_from, is_covered, is_outstanding, plan_fail_at, joint_part, joint_of, plan_of, Names}
+use Rattle.qu_plan.specs.Evidence.{reads, is_seen}
+use Rattle.qu_plan.specs.Linking.{Linking}
+use Rattle.qu_plan.proofs.Chosen.{chosen_reads}
+use Rattle.qu_plan.proofs.Copying.{IsCopied, is_plan, plan_copies}
 use Rattle.qu_rows.proofs.Allowed.{unmapped}
 use Rattle.qu_runs.proofs.Small.{same_object}
 use Rattle.qu_grounds.proofs.Together.{time_in, time_is, listed_named, IsMemberAt, member_at, member_is}

@@ -11,8 +11,8 @@ use Rattle.qu_objects.specs.declared.state.Link.{Link}
 use Rattle.qu_kept.specs.Keyed.{item_of, with_item}
 use Rattle.qu_kept.specs.Performing.{linked_object, links_to_others, with_links}
 use Rattle.qu_kept.proofs.KeyedLaws.{own_item, other_item}
-use Rattle.qu_class.specs.Copying.{Names}
-use Rattle.qu_class.specs.Linking.{link_in}
+use Rattle.qu_plan.specs.Copying.{Names}
+use Rattle.qu_plan.specs.Linking.{link_in}
 use Rattle.qu_claims.specs.Setting.{Setting}
 use Rattle.qu_links.specs.Over.{LinksOver}
 

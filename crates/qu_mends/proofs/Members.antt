@@ -14,16 +14,16 @@ use Rattle.qu_history.specs.declared.sets.SetOf.{SetOf}
 use Rattle.qu_history.specs.Sets.{entries_of, latest_of}
 use Rattle.qu_class.specs.declared.class.Class.{Class}
 use Rattle.qu_class.specs.declared.class.Class.TheVariants.{Method, InlineMethod, Copy, InlineBarrier, Barrier, Needs}
-use Rattle.qu_class.specs.declared.plan.CopyPlan.{CopyPlan}
-use Rattle.qu_class.specs.declared.plan.PlanFail.{PlanFail}
-use Rattle.qu_class.specs.declared.plan.PlanFail.TheVariants as why
+use Rattle.qu_plan.specs.declared.plan.CopyPlan.{CopyPlan}
+use Rattle.qu_plan.specs.declared.plan.PlanFail.{PlanFail}
+use Rattle.qu_plan.specs.declared.plan.PlanFail.TheVariants as why
 use Rattle.qu_class.specs.Class.{is_latest, is_in_sets, listed_stamp, agrees, first_absent, all_agree, class_of, with_members, class_in}
-use Rattle.qu_class.specs.Copying.{plan_of}
-use Rattle.qu_class.specs.Linking.{Linking}
+use Rattle.qu_plan.specs.Copying.{plan_of}
+use Rattle.qu_plan.specs.Linking.{Linking}
 use Rattle.qu_class.specs.Repairable.{object_base}
 use Rattle.qu_class.specs.Rows.{AllShown}
 use Rattle.qu_class.proofs.GroupRule.{inline_by, copy_in_sets}
-use Rattle.qu_class.proofs.Copying.{IsCopied, plan_copies}
+use Rattle.qu_plan.proofs.Copying.{IsCopied, plan_copies}
 use Rattle.qu_mends.specs.declared.course.Course.{Course}
 use Rattle.qu_mends.specs.declared.remedy.Remedy.{Remedy}
 use Rattle.qu_mends.specs.Causes.{AddsPlain}

@@ -16,12 +16,12 @@ use Rattle.qu_objects.specs.declared.state.ObjState.{ObjState}
 use Rattle.qu_kept.specs.Performing.{copied_state}
 use Rattle.qu_class.specs.declared.class.Class.{Class}
 use Rattle.qu_class.specs.declared.class.Class.TheVariants.{Method, InlineMethod, Copy, InlineBarrier, Barrier, Needs}
-use Rattle.qu_class.specs.declared.plan.CopyPlan.{CopyPlan}
-use Rattle.qu_class.specs.declared.plan.PlanFail.{PlanFail}
-use Rattle.qu_class.specs.declared.plan.PlanFail.TheVariants as why
+use Rattle.qu_plan.specs.declared.plan.CopyPlan.{CopyPlan}
+use Rattle.qu_plan.specs.declared.plan.PlanFail.{PlanFail}
+use Rattle.qu_plan.specs.declared.plan.PlanFail.TheVariants as why
 use Rattle.qu_class.specs.Class.{class_in}
-use Rattle.qu_class.specs.Copying.{plan_of}
-use Rattle.qu_class.specs.Linking.{Linking}
+use Rattle.qu_plan.specs.Copying.{plan_of}
+use Rattle.qu_plan.specs.Linking.{Linking}
 use Rattle.qu_class.specs.Repairable.{object_base}
 use Rattle.qu_class.specs.Rows.{MayBeRepaired, IsGreatestOfKind}
 use Rattle.qu_mends.specs.declared.course.Course.{Course}

@@ -1,17 +1,17 @@
-ghost use Rattle.std.specs.Prelude.{◌≡◌, ◌≤◌, length, map, All, IfOk, Ok as Planned, false};
-ghost use Rattle.std.specs.Option.{option_copied};
+ghost use Rattle.std.specs.Prelude.{◌≡◌, ◌≤◌, length, map, IfOk, Ok as Planned, false};
 ghost use Rattle.qu_base.specs.Bounds.{quorum};
 ghost use Rattle.qu_history.specs.Sets.{entries_of};
 ghost use Rattle.qu_class.specs.declared.class.Class.TheVariants.{Copy};
 ghost use Rattle.qu_class.specs.Class.{class_in};
-ghost use Rattle.qu_class.specs.Copying.{plan_of};
-ghost use Rattle.qu_class.specs.Linking.{linking};
+ghost use Rattle.qu_plan.specs.Copying.{plan_of};
+ghost use Rattle.qu_plan.specs.Linking.{linking};
 ghost use Rattle.qu_mends.specs.Remedy.{alone, inline_course, whole_group, shown_member, copied_at, copy_of, chosen_member, copied_member, copy_course, course_by, course_of, remedies_by, IsGrounded};
 
 use super::Remedy;
 use qu_base::{Bounds, List, NoMemory, ObjectId};
-use qu_class::{Class, CopyPlan, Fact, PlanFail, classify, object_base, plan_copy};
+use qu_class::{Class, classify, object_base};
 use qu_history::Sets;
+use qu_plan::{CopyPlan, Fact, PlanFail, plan_copy};
 use qu_stamp::{Candidate, Group};
 use std::alloc::Global;
 

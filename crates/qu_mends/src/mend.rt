@@ -4,7 +4,7 @@ ghost use Rattle.std.specs.Option.{option_copied};
 ghost use Rattle.qu_base.specs.Bounds.{quorum};
 ghost use Rattle.qu_history.specs.Sets.{entries_of, latest_of};
 ghost use Rattle.qu_mends.specs.Table.{has_no_room};
-ghost use Rattle.qu_class.specs.Linking.{linking};
+ghost use Rattle.qu_plan.specs.Linking.{linking};
 ghost use Rattle.qu_mends.specs.Remedy.{mend_of, has_time, fresh_member, made_group, addition_by, missing_key, stored_by, IsGrounded};
 ghost use Rattle.qu_mends.specs.Causes.{HasTime, ArePartsOf, HasCause};
 ghost use Rattle.qu_mends.specs.Mending.{is_held_part, is_overtaken, is_late, is_spent, missing_in, accepted_part, accepted_parts, mend_row_plan, mend_row_held, mend_row_current, mend_row_sound, mend_row_version, mend_row_time, mend_row_full, mend_row_mended, decide_mend};
@@ -12,11 +12,11 @@ ghost use Rattle.qu_mends.specs.Mending.{is_held_part, is_overtaken, is_late, is
 use super::course::Course;
 use super::{Accepted, Mending, Part, Remedy};
 use qu_base::{Bounds, ClientId, Digest, List, NoMemory, ObjectId};
-use qu_class::Fact;
 use qu_frames::Refusal;
 use qu_history::Sets;
 use qu_kept::copied;
 use qu_objects::ObjState;
+use qu_plan::Fact;
 use qu_stamp::{Candidate, Group, LAST_TIME, Stamp};
 use std::alloc::Global;
 

@@ -1,8 +1,9 @@
 use super::facts::all_hold;
 use super::history::{OBJECT, one_object, put, update_by};
 use qu_base::{Bounds, ClientId, Digest, List};
-use qu_class::{Class, classify, evidence, plan_copy};
+use qu_class::{Class, classify};
 use qu_history::Sets;
+use qu_plan::{evidence, plan_copy};
 use qu_stamp::{Candidate, Group, Stamp};
 use qu_testing::holds;
 use std::alloc::Global;

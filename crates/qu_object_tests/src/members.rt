@@ -2,9 +2,10 @@
 
 use super::facts::all_hold;
 use qu_base::{Bounds, ClientId, Digest, List, ObjectId, ReplicaId};
-use qu_class::{Class, Fact, PlanFail, classify, plan_copy};
+use qu_class::{Class, classify};
 use qu_history::{History, Sealed, SetOf, Sets};
 use qu_objects::Link;
+use qu_plan::{Fact, PlanFail, plan_copy};
 use qu_stamp::{Candidate, Group, Stamp};
 use qu_testing::holds;
 use std::alloc::Global;

@@ -3,9 +3,9 @@
 ghost use Rattle.std.specs.Prelude.{◌<◌};
 
 use qu_base::{Bounds, ClientId, Digest, List, ObjectId, ReplicaId};
-use qu_class::Fact;
 use qu_history::{History, Sealed, SetOf, Sets};
 use qu_objects::Link;
+use qu_plan::Fact;
 use qu_stamp::{Candidate, Group, Stamp};
 use rand_core::utils::NextWord;
 use rand_pcg::Lcg64Xsh32;

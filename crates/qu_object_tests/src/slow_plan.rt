@@ -2,8 +2,9 @@
 
 use super::slow_class::{is_above, slow_class};
 use qu_base::{Bounds, List, ObjectId};
-use qu_class::{Class, CopyPlan, Fact, PlanFail};
+use qu_class::Class;
 use qu_history::Sets;
+use qu_plan::{CopyPlan, Fact, PlanFail};
 use qu_stamp::{Candidate, Stamp};
 use std::alloc::Global;
 use std::test::Fail;

@@ -10,16 +10,16 @@ use Rattle.qu_stamp.proofs.Order.{equal_by_same_stamp, same_stamp-self}
 use Rattle.qu_history.specs.declared.sets.SetOf.{SetOf}
 use Rattle.qu_objects.specs.declared.state.ObjState.{ObjState}
 use Rattle.qu_versions.specs.Versions.{version_at}
-use Rattle.qu_class.specs.declared.fact.Fact.{Fact}
+use Rattle.qu_plan.specs.declared.fact.Fact.{Fact}
 use Rattle.qu_class.specs.declared.class.Class.{Class}
 use Rattle.qu_class.specs.declared.class.Class.TheVariants.{Method, InlineMethod, Copy, InlineBarrier, Barrier, Needs}
-use Rattle.qu_class.specs.declared.plan.CopyPlan.{CopyPlan}
-use Rattle.qu_class.specs.declared.plan.PlanFail.{PlanFail}
+use Rattle.qu_plan.specs.declared.plan.CopyPlan.{CopyPlan}
+use Rattle.qu_plan.specs.declared.plan.PlanFail.{PlanFail}
 use Rattle.qu_class.specs.Class.{is_copy, class_in}
-use Rattle.qu_class.specs.Copying.{plan_of}
-use Rattle.qu_class.specs.Evidence.{evidence_of, AreAlike}
-use Rattle.qu_class.specs.Linking.{is_fact_of, link_in, link_by, linking}
-use Rattle.qu_class.proofs.PlanEvidence.{evidence_enough}
+use Rattle.qu_plan.specs.Copying.{plan_of}
+use Rattle.qu_plan.specs.Evidence.{evidence_of, AreAlike}
+use Rattle.qu_plan.specs.Linking.{is_fact_of, link_in, link_by, linking}
+use Rattle.qu_plan.proofs.PlanEvidence.{evidence_enough}
 use Rattle.qu_mends.specs.declared.course.Course.{Course}
 use Rattle.qu_mends.specs.declared.mend.Mend.{Mend}
 use Rattle.qu_mends.specs.Mending.{decide_mend}

@@ -19,12 +19,12 @@ use Rattle.qu_objects.specs.declared.query.Ask.{Ask}
 use Rattle.qu_objects.specs.declared.state.ObjState.{ObjState}
 use Rattle.qu_objects.specs.Performing.{performed_answer, told_answer}
 use Rattle.qu_objects.specs.Digesting.{act_digest}
-use Rattle.qu_class.specs.declared.fact.Fact.{Fact}
+use Rattle.qu_plan.specs.declared.fact.Fact.{Fact}
 use Rattle.qu_class.specs.declared.class.Class.{Class}
 use Rattle.qu_class.specs.declared.class.Class.TheVariants as class
 use Rattle.qu_class.specs.Class.{is_copy, class_in}
-use Rattle.qu_class.specs.Evidence.{evidence_of}
-use Rattle.qu_class.specs.Linking.{Linking, link_in}
+use Rattle.qu_plan.specs.Evidence.{evidence_of}
+use Rattle.qu_plan.specs.Linking.{Linking, link_in}
 use Rattle.qu_kept.specs.declared.repeats.Standing.{Standing}
 use Rattle.qu_kept.specs.declared.repeats.Standing.TheVariants.{Fresh, Already, Spent}
 use Rattle.qu_kept.specs.Performing.{values_of, performed_states}

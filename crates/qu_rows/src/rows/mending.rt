@@ -2,7 +2,7 @@ ghost use Rattle.std.specs.Prelude.{◌≡◌, ◌≤◌, [], length, map, None,
 ghost use Rattle.std.specs.Option.{option_copied};
 ghost use Rattle.qu_base.specs.Bounds.{quorum};
 ghost use Rattle.qu_class.specs.Class.{is_copy, class_in};
-ghost use Rattle.qu_class.specs.Linking.{linking};
+ghost use Rattle.qu_plan.specs.Linking.{linking};
 ghost use Rattle.qu_frames.specs.declared.verdict.Verdict.TheVariants.{Mended};
 ghost use Rattle.qu_mends.specs.Remedy.{course_of};
 ghost use Rattle.qu_rows.specs.declared.decision.Decision.TheVariants.{Answers};
@@ -12,11 +12,12 @@ use super::Rows;
 use crate::asked::Asked;
 use crate::decision::{Decision, refuse};
 use qu_base::{Bounds, List, NoMemory, ObjectId};
-use qu_class::{Class, Fact, classify, evidence};
+use qu_class::{Class, classify};
 use qu_frames::{Refusal, Verdict};
 use qu_history::Sets;
 use qu_mends::{Accepted, Mend, Mending, Part, Remedy};
 use qu_objects::ObjState;
+use qu_plan::{Fact, evidence};
 use qu_stamp::Stamp;
 use std::alloc::Global;
 

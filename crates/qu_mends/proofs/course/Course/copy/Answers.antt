@@ -1,8 +1,8 @@
 -- What a plan copies on its target may be repaired.
 use Rattle.std.proofs.Common.{All, IfOk, Result, false, subst}
 use Rattle.qu_history.specs.Sets.{entries_of}
-use Rattle.qu_class.specs.declared.plan.CopyPlan.{CopyPlan}
-use Rattle.qu_class.specs.declared.plan.PlanFail.{PlanFail}
+use Rattle.qu_plan.specs.declared.plan.CopyPlan.{CopyPlan}
+use Rattle.qu_plan.specs.declared.plan.PlanFail.{PlanFail}
 use Rattle.qu_class.specs.Rows.{MayBeRepaired}
 use Rattle.qu_mends.proofs.Seeing.{ok_planned}
 use Rattle.qu_mends.proofs.course.Course.copy.Goals as goal

@@ -1,8 +1,8 @@
 -- How an object is mended is by its class, and has its ground there.
 use Rattle.std.proofs.Common.{◌≡◌, IfOk, subst}
 use Rattle.qu_class.specs.declared.class.Class.{Class}
-use Rattle.qu_class.specs.Copying.{plan_of}
-use Rattle.qu_class.specs.Linking.{linking}
+use Rattle.qu_plan.specs.Copying.{plan_of}
+use Rattle.qu_plan.specs.Linking.{linking}
 use Rattle.qu_mends.specs.Remedy.{course_by, course_of}
 use Rattle.qu_mends.proofs.Seeing.{ok_grounded}
 use Rattle.qu_mends.proofs.course.Course.of.Goals as goal

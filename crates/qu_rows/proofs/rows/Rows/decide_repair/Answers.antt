@@ -1,7 +1,7 @@
 -- What the versions of the evidence tell decides how the target is mended.
 use Rattle.std.proofs.Common.{List, ap, ◌∙◌}
-use Rattle.qu_class.specs.declared.fact.Fact.{Fact}
-use Rattle.qu_class.specs.Linking.{linking}
+use Rattle.qu_plan.specs.declared.fact.Fact.{Fact}
+use Rattle.qu_plan.specs.Linking.{linking}
 use Rattle.qu_mends.specs.Remedy.{course_of}
 use Rattle.qu_rows.specs.Rows.{facts_of}
 use Rattle.qu_rows.proofs.Facts.{facts_decide}

@@ -1,0 +1,4 @@
+pub mod Linking
+pub mod Chosen
+pub mod Evidence
+pub mod Copying
