@@ -15,7 +15,7 @@ use Rattle.qu_plan.specs.declared.plan.CopyPlan.{CopyPlan}
 use Rattle.qu_plan.specs.declared.plan.PlanFail.{PlanFail}
 use Rattle.qu_class.specs.Rows.{MayBeRepaired, IsClassIn}
 use Rattle.qu_class.proofs.ClassRows.{HasMethod}
-use Rattle.qu_plan.proofs.PlanEvidence.{object_is}
+use Rattle.qu_plan.proofs.Versions.{object_is}
 use Rattle.qu_mends.specs.declared.course.Course.{Course}
 use Rattle.qu_mends.specs.Remedy.{copied_at, copy_of, copy_course, course_by, IsGrounded}
 
