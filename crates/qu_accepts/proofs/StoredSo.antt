@@ -92,7 +92,8 @@ module _ (trace : Trace) (Is : ℕ → ObjectId → Stamp → ObjState → Type 
     next_so old new before added object stamp version found =
         elim (stored_cases object stamp old.versions added.more version
         (ap (version_at object stamp) (sym added.versions) ∙ found)) [
-          | inl earlier ↦ later count (count + 1) (omega arith) object stamp version (before object stamp version earlier)
+          | inl earlier ↦ later count (count + 1) (omega arith) object stamp version
+              (before object stamp version earlier)
           | inr newest ↦
               found_among (IsSo (count + 1)) added.more (All-from_recursion (IsSo (count + 1)) added.more added.each)
               object stamp version newest

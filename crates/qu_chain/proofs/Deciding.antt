@@ -45,7 +45,8 @@ module _ (setting : Setting) (laws : Laws setting) (all : Joint setting) where
             let within : it.first.time < time = it.first.within in
             record {
               plain = it.plain_base;
-              attested = attested-later setting laws.lasting it.first.time time (omega arith) object candidate it.attested;
+              attested =
+                  attested-later setting laws.lasting it.first.time time (omega arith) object candidate it.attested;
             }
       ]
 
@@ -53,7 +54,10 @@ module _ (setting : Setting) (laws : Laws setting) (all : Joint setting) where
   pub decided_sound : (time : ℕ) → time ≤ setting.last → (object : ObjectId) (candidate : Candidate)
       → IsDecided setting time object candidate → IsSound setting time object candidate
   decided_sound time bound object candidate (IsDecided.established same plain established) =
-      record { plain = plain; attested = attested_by_established setting laws.lasting time object candidate established }
+      record {
+        plain = plain;
+        attested = attested_by_established setting laws.lasting time object candidate established;
+      }
   decided_sound time bound object candidate (IsDecided.prior same child decided prior accepted) =
       sound_base time bound object candidate child (decided_sound time bound object child decided) prior accepted
 
@@ -104,13 +108,15 @@ module _ (setting : Setting) (laws : Laws setting) (all : Joint setting) where
       (subst (IsDecided setting time object)
       (one_candidate setting laws.lasting all.one time setting.last bound (omega arith) object base between
       (accepted_by_decided setting laws.lasting time object base decided)
-      (accepted_by_attested setting laws.lasting setting.last object between attested) (sym base_prior ∙ prior)) decided)
+      (accepted_by_attested setting laws.lasting setting.last object between attested) (sym base_prior ∙ prior))
+      decided)
 
   one : (object : ObjectId) (candidate other : Candidate)
       → IsAccepted setting setting.last object candidate → IsAccepted setting setting.last object other
       → candidate.stamp ≡ other.stamp → candidate ≡ other
   one object candidate other accepted other_accepted same =
-      one_candidate setting laws.lasting all.one setting.last setting.last (omega arith) (omega arith) object candidate other
+      one_candidate setting laws.lasting all.one setting.last setting.last (omega arith) (omega arith) object
+      candidate other
       accepted other_accepted same
 
   reach_base : (object : ObjectId) (candidate child peak : Candidate) → child.prior ≡ candidate.stamp
@@ -165,7 +171,8 @@ module _ (setting : Setting) (laws : Laws setting) (all : Joint setting) where
   path_through object first second passed common accepted other_accepted prior lower further
       (IsAncestor.through between same other_prior plain attested ancestor) =
       let is_passed : between ≡ passed =
-      one object between passed (accepted_by_attested setting laws.lasting setting.last object between attested) accepted
+      one object between passed (accepted_by_attested setting laws.lasting setting.last object between attested)
+      accepted
       (sym other_prior ∙ prior) in
       further (subst (IsAncestor setting setting.last object second) is_passed ancestor)
 

@@ -83,7 +83,8 @@ module _ (setting : Setting) (laws : Laws setting) (all : Joint setting) where
       × Companion setting time object candidate other found =
       companion_of time bound object candidate other companion.stamp accepted apart is_member in
       subst (λ (one : Candidate). Companion setting time object candidate other one)
-      (one_candidate setting laws.lasting all.one time setting.last bound (omega arith) other it.0 companion it.2.accepted known
+      (one_candidate setting laws.lasting all.one time setting.last bound (omega arith) other it.0 companion
+      it.2.accepted known
       it.1) it.2
 
   copied_of : (time : ℕ) → time ≤ setting.last → (object : ObjectId) (base candidate : Candidate)
@@ -94,7 +95,8 @@ module _ (setting : Setting) (laws : Laws setting) (all : Joint setting) where
       let within : first.time < time = first.within in
       let same : it.base ≡ base =
       one_candidate setting laws.lasting all.one first.time setting.last (omega arith) (omega arith) object it.base base
-      (accepted_by_attested setting laws.lasting first.time object it.base it.attested) accepted (sym it.prior ∙ prior) in
+      (accepted_by_attested setting laws.lasting first.time object it.base it.attested) accepted
+      (sym it.prior ∙ prior) in
       record {
         time = first.time;
         within = within;
@@ -199,7 +201,8 @@ module _ (setting : Setting) (laws : Laws setting) (all : Joint setting) where
         | inl is_act ↦
             let within : it.first.time < time = it.first.within in
             established_joint time bound object base other stamp it.plain_base
-            (established-later setting laws.lasting it.first.time time (omega arith) object base (it.settled is_act)) apart
+            (established-later setting laws.lasting it.first.time time (omega arith) object base (it.settled is_act))
+            apart
             is_member
         | inr no_act ↦
             copy_joint time bound object base candidate other stamp further accepted apart is_member

@@ -177,7 +177,8 @@ module _ (setting : Setting) (laws : Laws setting) (all : Joint setting) where
   base_is time bound object base candidate accepted prior it =
       let within : it.first.time < time = it.first.within in
       let same : it.link.base ≡ base =
-      one_candidate setting laws.lasting all.one it.first.time setting.last (omega arith) (omega arith) object it.link.base base
+      one_candidate setting laws.lasting all.one it.first.time setting.last (omega arith) (omega arith) object
+      it.link.base base
       (accepted_by_attested setting laws.lasting it.first.time object it.link.base it.link.attested) accepted
       (sym it.link.prior ∙ prior) in
       record {
@@ -199,7 +200,8 @@ module _ (setting : Setting) (laws : Laws setting) (all : Joint setting) where
             let prior_is : candidate.prior ≡ candidate.stamp =
             ap (λ (it : Candidate). it.prior) same ∙ ap (λ (it : Candidate). it.stamp) (sym same) in
             inl (
-              one_candidate setting laws.lasting all.one setting.last time (omega arith) bound object base candidate base_accepted accepted
+              one_candidate setting laws.lasting all.one setting.last time (omega arith) bound object base candidate
+                  base_accepted accepted
                   (sym prior ∙ prior_is),
               same,
             )

@@ -68,7 +68,8 @@ module _ (setting : Setting) (laws : Laws setting) (all : Joint setting) where
       elim (newly time bound object child decided) [
         | inl before ↦
             inl (decided_prior setting laws all time (omega arith) object candidate child
-            (some-later setting laws.lasting (suc time) setting.last (omega arith) object candidate accepted) prior before)
+            (some-later setting laws.lasting (suc time) setting.last (omega arith) object candidate accepted) prior
+            before)
         | inr under ↦
             inr (record {
               given = under.given;

@@ -36,7 +36,8 @@ module _ (setting : Setting) (laws : Laws setting) (all : Joint setting) where
   pub accepted_at_last : (time : ℕ) (object : ObjectId) (candidate : Candidate)
       → IsDecidedBy setting time object candidate → IsAccepted setting setting.last object candidate
   accepted_at_last time object candidate turn =
-      accepted_by_decided setting laws.lasting setting.last object candidate (decided_at_last time object candidate turn)
+      accepted_by_decided setting laws.lasting setting.last object candidate
+      (decided_at_last time object candidate turn)
 
   pub turn_plain : (time : ℕ) (object : ObjectId) (candidate : Candidate)
       → IsDecidedBy setting time object candidate → setting.plain candidate ≡ true
@@ -258,7 +259,8 @@ module _ (setting : Setting) (laws : Laws setting) (all : Joint setting) where
     reach_last where_at candidate given (inl same) = inl same
     reach_last where_at candidate given (inr ancestor) =
         let within : time < setting.last = turn.within in
-        inr (ancestor-later setting laws.lasting (suc time) setting.last (omega arith) where_at candidate given ancestor)
+        inr (ancestor-later setting laws.lasting (suc time) setting.last (omega arith) where_at candidate given
+        ancestor)
 
     from_top : (upper lower : Candidate) → IsDecided setting (suc time) object upper
         → IsDecided setting (suc time) other lower

@@ -46,7 +46,8 @@ module _ (setting : Setting) (laws : Laws setting) (all : Joint setting)
 
     late : (candidate : Candidate) → IsDecided setting (suc time) object candidate
         → IsDecided setting setting.last object candidate
-    late candidate decided = decided-later setting laws.lasting (suc time) setting.last (omega arith) object candidate decided
+    late candidate decided =
+        decided-later setting laws.lasting (suc time) setting.last (omega arith) object candidate decided
 
     old_accepted : IsAccepted setting setting.last object old
     old_accepted =

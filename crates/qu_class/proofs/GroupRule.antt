@@ -56,8 +56,11 @@ module _ (sets : List SetOf) where
   all_from low least [] below rise = tt
   all_from low least (member ∷ later) below rise =
       let parts = and_parts (is_member_from least member) _ rise in
-      let first : least ≤ (member.0).0 = from_part least member parts.0 in
-      (λ absent. omega (arith, below, first), all_from low ((member.0).0 + 1) later (omega (arith, below, first)) parts.1)
+      let first : least ≤ (member.0).0 = from_part least member parts.0 in (
+        λ absent. omega (arith, below, first),
+        all_from low ((member.0).0 + 1) later (omega (arith, below, first))
+            parts.1,
+      )
 
   record IsFirst (least : ℕ) (group : List (ObjectId × ℕ)) (object : ObjectId) : Type 0 where
     from : least ≤ object.0

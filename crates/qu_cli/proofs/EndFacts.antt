@@ -303,7 +303,8 @@ report_complete asked source source' sink sink' told status command trace text a
 
 pub refusal_refused : (asked : Option Command) (source source' sink sink' : StreamView) (status : ℕ)
     (command : Command) (script text : List ℕ) (bad : Bad) → asked ≡ Some command
-    → HasScript command source source' script → Refuses command script bad → TellsBad command script bad text → status ≡ 3
+    → HasScript command source source' script → Refuses command script bad → TellsBad command script bad text
+    → status ≡ 3
     → WritesOrFails sink sink' text → IsRefused asked source source' sink sink' status
 refusal_refused asked source source' sink sink' status command script text bad asks takes refused tells is writes
     other held why again holds refuses quiet =
@@ -314,7 +315,8 @@ refusal_refused asked source source' sink sink' status command script text bad a
     one_bad command script why bad
     (refuses_by command script held why taken (subst (λ c. Refuses c held why) same refuses)) refused in
     let told : TellsBad command held why text =
-    subst (λ (it : Bad). TellsBad command held it text) (sym equal) (tells_by command script held bad text taken tells) in
+    subst (λ (it : Bad). TellsBad command held it text) (sym equal)
+    (tells_by command script held bad text taken tells) in
     inl (
       is,
       record {

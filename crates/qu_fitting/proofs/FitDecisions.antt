@@ -1,4 +1,5 @@
--- What a replica decides fits where its verdict and the candidates that it accepts do; the rows that all requests share.
+-- What a replica decides fits where its verdict and the candidates that it accepts do; the rows that all requests
+-- share.
 use Rattle.std.proofs.Common.{◌≡◌, ◌-◌, ◌^◌, ℕ, ◌+◌, ◌≤◌, Bool, cond, List, [], ◌∷◌, length, Option, None, Some, inl, inr, refl, sym, ap, subst, ◌∙◌}
 use Rattle.std.specs.Prelude.{IsTrue, find, option_map, slice_get}
 use Rattle.std.specs.List.{AllByRecursion}

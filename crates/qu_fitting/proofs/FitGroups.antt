@@ -43,7 +43,10 @@ from_members least (member ∷ later) rise =
     let number = and_parts (nat_lt (member.0).0 OBJECT_IDS) _ above.1 in
     let times = and_parts (nat_le 1 member.1) (nat_le member.1 LAST_TIME) number.1 in
     let within : (member.0).0 < OBJECT_IDS = ltb-true _ _ number.0 in (
-      (((omega arith, omega (arith, within)), above.0), (leb-true 1 member.1 times.0, leb-true member.1 LAST_TIME times.1)),
+      (
+        ((omega arith, omega (arith, within)), above.0),
+        (leb-true 1 member.1 times.0, leb-true member.1 LAST_TIME times.1),
+      ),
       from_members ((member.0).0 + 1) later both.1,
     )
 
@@ -58,7 +61,8 @@ group_fits object stamp group above plain is listed =
     let both = and_parts (is_group_size (length group)) (are_members_from 0 group) is in
     let sized : may_be_size stamp (length group) ≡ true =
     and_from _ _ both.0
-    (later_true (length group == 0) (may_have_act stamp.time stamp.barrier) (acted stamp.time stamp.barrier above plain)) in (
+    (later_true (length group == 0) (may_have_act stamp.time stamp.barrier)
+    (acted stamp.time stamp.barrier above plain)) in (
       (((omega arith, few_members (length group) both.0), sized), (refl, from_members 0 group both.1)),
       later_true (length group == 0) (is_time stamp.time (listed_time object group))
           (ap (is_time stamp.time) listed ∙ eq-eqb stamp.time stamp.time refl),

@@ -468,7 +468,8 @@ module _ (state : ReplicaState) (asked : Asked) (fits : StateFits state) (asks :
         (λ object is. before_fits object (before_of state asked object) is) are_befores in
         subst DecisionFits
         (same_Some _ decision
-        (sym (told_each state asked (base_of state asked) (before_of state asked) query are_bases are_befores) ∙ given)) (
+        (sym (told_each state asked (base_of state asked) (before_of state asked) query are_bases are_befores)
+        ∙ given)) (
           told_fits (with_stamps (λ object. (base_of state asked object).stamp) asked_objects)
               (told_answer query (values_of (map (before_of state asked) asked_objects)))
               (stamps_fit (λ object. (base_of state asked object).stamp) query rise

@@ -127,7 +127,8 @@ has_client setup zero place below correct = absurd (omega arith)
 has_client setup (suc last) place below correct =
     let so_far : List ℕ = client_numbers (correct_clients setup last) in
     let P : Bool → Type 0 = λ it. is_among (place + 1)
-    (client_numbers (cond it (correct_clients setup last) (correct_clients setup last ++ client_at last ∷ []))) ≡ true in
+    (client_numbers (cond it (correct_clients setup last) (correct_clients setup last ++ client_at last ∷ [])))
+    ≡ true in
     let pushed : client_numbers (correct_clients setup last ++ client_at last ∷ []) ≡ so_far ++ (last + 1) ∷ [] =
     map-append (λ (me : ClientId). me.0) (correct_clients setup last) (client_at last ∷ []) in
     elim (cases_Bool (eqb place last)) [

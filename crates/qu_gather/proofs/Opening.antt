@@ -41,7 +41,8 @@ record IsReplicaBelow (setup : Setup) (count : ℕ) (me : ReplicaId) : Type 0 wh
   below : me.0 < count
   good : is_faulty setup (party.Replica me) ≡ false
 
-replicas_below : (setup : Setup) (count : ℕ) → AllByRecursion (IsReplicaBelow setup count) (correct_replicas setup count)
+replicas_below : (setup : Setup) (count : ℕ)
+    → AllByRecursion (IsReplicaBelow setup count) (correct_replicas setup count)
 unfolding correct_replicas
 replicas_below setup zero = tt
 replicas_below setup (suc place) =

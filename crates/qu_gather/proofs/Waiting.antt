@@ -37,7 +37,8 @@ delivered_later first entries number was =
     record { at = suc was.at; entry = was.entry; found = was.found; event_is = was.event_is }
 
 tick_bars : (me : ClientId) (number : ℕ) (later : List Entry) (happened : Event) → happened ≡ event.Tick me
-    → cond (is_delivery_of number happened) true (cond (is_tick_of me happened) false (is_in_time me number later)) ≡ true
+    → cond (is_delivery_of number happened) true (cond (is_tick_of me happened) false (is_in_time me number later))
+    ≡ true
     → ⊥
 tick_bars me number later happened is in_time =
     no_true
@@ -136,7 +137,8 @@ from_second setup senders first entries at me number is =
       found = is.found;
       sends = is.sends;
       number_is = omega (arith, front, same, both, before);
-      waits = ap (λ (it : List Party). waiting_client setup (asker_of it is.entry.event) is.letter) (sym all) ∙ is.waits;
+      waits =
+          ap (λ (it : List Party). waiting_client setup (asker_of it is.entry.event) is.letter) (sym all) ∙ is.waits;
     }
 
 answered : (setup : Setup) (senders : List Party) (entries : List Entry) (at tick : ℕ) (me : ClientId) (number : ℕ)

@@ -241,7 +241,8 @@ module _ (state : ReplicaState) (asked : Asked) (no_act : asked.act ≡ None)
         map (fresh_member asked.sets) later,
         subst (λ (it : List (ObjectId × ℕ)). AddsGroup state asked target (map (fresh_member asked.sets) it) accepted)
             whole.1
-            (copies_added state asked target no_act formed plan (planned_of state asked target ready plan copy is) whole.0
+            (copies_added state asked target no_act formed plan (planned_of state asked target ready plan copy is)
+            whole.0
             (made ∙ ap (made_group asked.sets) (sym whole.1)) accepted added),
       )
   copied_group_added copy (Err (why.Stale other)) is member later made none accepted added =
@@ -355,7 +356,8 @@ repair_accepts state asked target no_act formed grouped =
     past most _ _ (inl refl) (few state asked target) (λ enough.
     past most _ _ (inl refl) (evidence state asked target) (λ ready.
     at_last most (decision_by target (mending_on state asked target))
-    (mended state asked no_act formed grouped (not_thin state asked fat) target (not_few state asked target enough) (all_known state asked target ready)
+    (mended state asked no_act formed grouped (not_thin state asked fat) target (not_few state asked target enough)
+    (all_known state asked target ready)
     (mending_on state asked target) (mending_has_cause state asked target))))))
 
 adds : (state new : ReplicaState) (client : ClientId) (number round : ℕ) (sent : List SetOf) (mac : List ℕ)

@@ -159,7 +159,8 @@ module _ (state : ReplicaState) (asked : Asked) (target : ObjectId) (no_act : as
     joined_at object names =
         let copy : IsOfCopy object =
         each_member IsOfCopy plan.joint
-        (of_copy plan.joint (plan_copies copy_bounds asked.sets copy_link target plan planned.copy planned.is)) object names in
+        (of_copy plan.joint (plan_copies copy_bounds asked.sets copy_link target plan planned.copy planned.is)) object
+        names in
         let part : IsCopyPart object = each_member IsCopyPart plan.joint are.parts object names in
         let enough : quorum copy_bounds ≤ length (shown_of asked object) =
         copy_has_quorum copy_bounds (shown_of asked object) (copy_is_own copy_bounds asked.sets object copy) in

@@ -166,8 +166,10 @@ module _ (old new : ReplicaState) (asked : Asked) (group : List (ObjectId × ℕ
             (made_on old.keys.bounds (linking_of old) asked (body.Mend target) object barrier) object candidate
             → IsMadeFrom old.keys.bounds (linking_of old) asked (body.Mend target) object candidate
         made_so candidate barrier is made =
-            subst (λ (it : Bool). IsMade asked (made_upon old.keys.bounds (linking_of old) asked (body.Mend target) object it)
-            (made_on old.keys.bounds (linking_of old) asked (body.Mend target) object it) object candidate) (sym is) made
+            subst (λ (it : Bool). IsMade asked (made_upon old.keys.bounds (linking_of old) asked (body.Mend target)
+            object it)
+            (made_on old.keys.bounds (linking_of old) asked (body.Mend target) object it) object candidate) (sym is)
+            made
 
         by_remedy : (candidate : Candidate) (version : Option ObjState)
             → IsRemedy old asked target object candidate version
@@ -176,7 +178,8 @@ module _ (old new : ReplicaState) (asked : Asked) (group : List (ObjectId × ℕ
         by_remedy candidate version (IsRemedy.inline_barrier barrier found) = inr found
         by_remedy candidate version (IsRemedy.inline_method state plain found stored) = inr found
         by_remedy candidate version (IsRemedy.barrier barrier made) = inl (made_so candidate true barrier made)
-        by_remedy candidate version (IsRemedy.copy latest plan before plain planned names made barrier is_latest full stored) =
+        by_remedy candidate version (IsRemedy.copy latest plan before plain planned names made barrier is_latest full
+            stored) =
             inl (made_so candidate false plain
             (subst (λ (it : Result CopyPlan PlanFail). IsMade asked
             (chosen_on old.keys.bounds asked.sets (linking_of old) object) (planned_on it) object candidate)

@@ -160,7 +160,8 @@ module _ (candidates : ObjectId → Candidate) (versions : ObjectId → Option O
 -- the version of what is added to mend objects, where the replica held none under its stamp
 pub version_of_mended : (old new : ReplicaState) (candidates : ObjectId → Candidate)
     (versions : ObjectId → Option ObjState) (target : ObjectId) (group : List (ObjectId × ℕ)) (object : ObjectId)
-    (version : ObjState) → new.versions ≡ old.versions ++ stored_mended candidates versions (mended_objects target group)
+    (version : ObjState)
+    → new.versions ≡ old.versions ++ stored_mended candidates versions (mended_objects target group)
     → MendsOn target group object → versions object ≡ Some version
     → version_at object (candidates object).stamp old.versions ≡ None
     → version_at object (candidates object).stamp new.versions ≡ Some version

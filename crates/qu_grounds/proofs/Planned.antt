@@ -55,7 +55,8 @@ module _ (bounds : ℕ) (sets : List SetOf) (link : Linking) where
   joined_rise candidate least [] rise = refl
   joined_rise candidate least (member ∷ later) rise =
       let both = and_parts (is_member_from least member) (are_members_from ((member.0).0 + 1) later) rise in
-      let from : least ≤ (member.0).0 = leb-true least (member.0).0 (and_parts (nat_le least (member.0).0) _ both.0).0 in
+      let from : least ≤ (member.0).0 =
+      leb-true least (member.0).0 (and_parts (nat_le least (member.0).0) _ both.0).0 in
       by (is_joined bounds sets link candidate member) refl both.0
       (joined_rise candidate ((member.0).0 + 1) later both.1)
       (members_from_lower least ((member.0).0 + 1) (omega (arith, from)) _

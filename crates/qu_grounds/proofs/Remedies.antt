@@ -223,7 +223,8 @@ module _ (state : ReplicaState) (asked : Asked) (target : ObjectId) (no_act : as
         → whole_group (map chosen_member plan.joint) ≡ [] → (found : Option Candidate)
         → ((it : Candidate) → found ≡ Some it → IsFoundAt plan.joint it)
         → MakesCandidate alone_mend alone_mend.latest (copy_of target found) candidate
-        → AddsVersion target candidate (copy_of target found) (wanted_version state target (copy_of target found)) stored
+        → AddsVersion target candidate (copy_of target found) (wanted_version state target (copy_of target found))
+        stored
         → IsRemedy state asked target target candidate stored
     copied_of plan is single None at never has = absurd never
     copied_of plan is single (Some base) at makes has =

@@ -11,20 +11,10 @@ use Rattle.qu_stamp.specs.Stamp.{is_below}
 use Rattle.qu_stamp.specs.Candidate.{same}
 use Rattle.qu_history.specs.History.{rises_from, is_history, holds}
 use Rattle.qu_history.proofs.Rising.{history_parts}
+use Rattle.qu_history.proofs.Shown.{below_from}
 
 abbrev pub is_under : Stamp → Candidate → Bool
 is_under stamp held = is_below held.stamp stamp
-
--- rising candidates are above the stamp from which they rise
-above_all : (stamp : Stamp) (later : List Candidate) (place : ℕ) (default : Candidate)
-    → rises_from stamp later ≡ true → place < length later
-    → is_below stamp (get_or later place default).stamp ≡ true
-unfolding rises_from
-above_all stamp [] place default rising within = absurd (omega arith)
-above_all stamp (next ∷ later) zero default rising within = (and_parts _ _ rising).0
-above_all stamp (next ∷ later) (suc place) default rising within =
-    let parts : (is_below stamp next.stamp ≡ true) × (rises_from next.stamp later ≡ true) = and_parts _ _ rising in
-    is_below-chain stamp next.stamp _ parts.0 (above_all next.stamp later place default parts.1 (omega (arith, within)))
 
 parted_from : (stamp : Stamp) (first : Candidate) (later : List Candidate) (one other : ℕ) (default : Candidate)
     → rises_from first.stamp later ≡ true → one ≤ other → other < length (first ∷ later)
@@ -33,7 +23,7 @@ parted_from : (stamp : Stamp) (first : Candidate) (later : List Candidate) (one 
 unfolding rises_from
 parted_from stamp first later zero zero default rising order within below = below
 parted_from stamp first later zero (suc other) default rising order within below =
-    is_below-chain first.stamp _ stamp (above_all first.stamp later other default rising (omega (arith, within))) below
+    is_below-chain first.stamp _ stamp (below_from first.stamp later other default rising (omega (arith, within))) below
 parted_from stamp first later (suc one) zero default rising order within below = absurd (omega arith)
 parted_from stamp first [] (suc one) (suc other) default rising order within below = absurd (omega arith)
 parted_from stamp first (next ∷ later) (suc one) (suc other) default rising order within below =

@@ -23,7 +23,7 @@ use Rattle.qu_history.proofs.Greatest.{greatest_none, greatest_push, greatest_ca
 -- ---- in a history the last is the greatest
 
 -- what stands in front of a place is below what stands there
-below_from : (stamp : Stamp) (candidates : List Candidate) (place : ℕ) (default : Candidate)
+pub below_from : (stamp : Stamp) (candidates : List Candidate) (place : ℕ) (default : Candidate)
     → rises_from stamp candidates ≡ true → place < length candidates
     → is_below stamp (get_or candidates place default).stamp ≡ true
 unfolding rises_from

@@ -54,7 +54,8 @@ values_fit parts values fit =
 module _ (row : KeptRow) (all : List (ObjectId × Method)) where
   written_values : (parts : List (ObjectId × Method)) (stamps : List Stamp) (values : List Value)
       (states : List ObjState) → length stamps ≡ length parts → length values ≡ length parts
-      → length states ≡ length parts → values_of (map (written row all) (zip parts (zip stamps (zip values states)))) ≡ values
+      → length states ≡ length parts → values_of (map (written row all) (zip parts (zip stamps (zip values states))))
+      ≡ values
   written_values [] stamps [] states stamped valued fit = refl
   written_values [] stamps (value ∷ values) states stamped valued fit = absurd (omega arith)
   written_values (part ∷ parts) [] values states stamped valued fit = absurd (omega arith)

@@ -88,7 +88,8 @@ is_among clients number me is =
     either Among (nat_le number clients) (given (client_at number)) (refused NoSuchActor) me
     (λ few there.
     sure Among (client_at number) me
-    (leb-true _ _ (and_parts (nat_le 1 number) (nat_le number LAST_CLIENT) within).0, leb-true number clients few) there)
+    (leb-true _ _ (and_parts (nat_le 1 number) (nat_le number LAST_CLIENT) within).0, leb-true number clients few)
+    there)
     (λ many wrong. never Among NoSuchActor me wrong) found)
     (λ over wrong. never Among OverLimit me wrong) is
 
@@ -155,7 +156,8 @@ line_stands : (script : Script) (number : ℕ) (line : Line) → Stands script �
     → Stands (with_line script number line)
 line_stands script number line stands may =
     subst (MayAllCall script.setup) (calls_more script.lines (number, line))
-    (all_join (λ (call : ClientId × Op). MayCall script.setup call.0) (calls_said script.lines) (call_of line) stands may)
+    (all_join (λ (call : ClientId × Op). MayCall script.setup call.0) (calls_said script.lines) (call_of line) stands
+    may)
 
 none_stand : (setup : Setup) (lines : List (ℕ × Line)) → has_none lines ≡ true → MayAllCall setup (calls_said lines)
 none_stand setup [] none = tt

@@ -104,4 +104,5 @@ next_is_shorter [] rest word is = absurd cc
 next_is_shorter (first ∷ words) rest word is =
     omega (arith, ap length (after_word words rest word (ascii_word first) is))
 
-pub ruleset listed_facts = (listed_more, listed_odd, listed_bad, replicas_bad, listed_end, listed_start, next_is_shorter)
+pub ruleset listed_facts =
+    (listed_more, listed_odd, listed_bad, replicas_bad, listed_end, listed_start, next_is_shorter)

@@ -18,7 +18,8 @@ lines_rule-cons : (live : Bool) (phase : Phase) (number : ℕ) (text : List ℕ)
 unfolding lines_rule
 lines_rule-cons live phase number text texts = refl
 
-lines_rule-nil : (live : Bool) (phase : Phase) (number : ℕ) → lines_rule live phase number [] ≡ at_line number (end_rule phase)
+lines_rule-nil : (live : Bool) (phase : Phase) (number : ℕ)
+    → lines_rule live phase number [] ≡ at_line number (end_rule phase)
 unfolding lines_rule
 lines_rule-nil live phase number = refl
 
@@ -37,10 +38,12 @@ lines_stop live phase bad number text rest after cut read =
     ∙ ap (λ found. then_good found (λ phase. lines_rule live phase (number + 1) after)) read
 
 -- a line that is not read is what is told of all lines
-pub lines_fail : (live : Bool) (phase : Phase) (fail : ScriptFail) (number : ℕ) (text : List ℕ) (rest after : List (List ℕ))
+pub lines_fail : (live : Bool) (phase : Phase) (fail : ScriptFail) (number : ℕ) (text : List ℕ)
+    (rest after : List (List ℕ))
     → rest ≡ text ∷ after → Fails fail (at_line number (line_rule live phase number (words_in text)))
     → Fails fail (lines_rule live phase number rest)
-lines_fail live phase (fails.Bad bad) number text rest after cut read = lines_stop live phase bad number text rest after cut read
+lines_fail live phase (fails.Bad bad) number text rest after cut read =
+    lines_stop live phase bad number text rest after cut read
 lines_fail live phase fails.NoMemory number text rest after cut read = tt
 
 pub lines_end : (live : Bool) (phase : Phase) (number : ℕ) (text : List ℕ) → length text ≡ 0

@@ -30,7 +30,8 @@ module _ (trace : Trace) (is_run : IsRun trace) (have : ArePlain trace) (no_coll
     chain = chain (setting trace) law (setting trace).last (omega arith);
     ordered = decided_order (setting trace) law joint;
     one = λ object first second accepted again same.
-        one_candidate (setting trace) law.lasting joint.one (setting trace).last (setting trace).last (omega arith) (omega arith)
+        one_candidate (setting trace) law.lasting joint.one (setting trace).last (setting trace).last (omega arith)
+        (omega arith)
         object first second accepted again same;
   }
 

@@ -1,4 +1,5 @@
--- What a request that mends copies, on all objects of its target's plan: it gives what the theory of links asks of a step
+-- What a request that mends copies, on all objects of its target's plan: it gives what the theory of links asks of a
+-- step
 -- that copies. And what an act makes rests on what a quorum shows.
 use Rattle.std.proofs.Common.{◌≡◌, ◌⊎◌, ◌≤◌, ◌<◌, ◌+◌, ℕ, true, false, not, List, [], ◌∷◌, length, Option, Some, None, refl, sym, ap, subst, ◌∙◌, inl, inr, arith}
 use Rattle.std.specs.Prelude.{is_some, option_and_then}

@@ -27,7 +27,8 @@ module _ (setting : Setting) (early : Early setting) where
   under_opening object low candidate begun accepted is_opening
       (IsAncestor.through between same prior plain attested ancestor) =
       under_opening object low between begun accepted
-      (one_candidate setting early.lasting early.one setting.last setting.last (omega arith) (omega arith) object between
+      (one_candidate setting early.lasting early.one setting.last setting.last (omega arith) (omega arith)
+      object between
       opening (accepted_by_attested setting early.lasting setting.last object between attested) begun
       (sym prior ∙ ap (λ (it : Candidate). it.prior) is_opening))
       ancestor
@@ -65,12 +66,14 @@ module _ (setting : Setting) (early : Early setting) where
       → candidate.prior ≡ base.stamp → IsAncestor setting setting.last object low candidate
       → (low ≡ base) ⊎ IsAncestor setting setting.last object low base
   by_base object low base candidate based accepted prior (IsAncestor.direct same low_prior) =
-      inl (one_candidate setting early.lasting early.one setting.last setting.last (omega arith) (omega arith) object low
+      inl (one_candidate setting early.lasting early.one setting.last setting.last (omega arith) (omega arith)
+      object low
       base accepted based (sym low_prior ∙ prior))
   by_base object low base candidate based accepted prior
       (IsAncestor.through between same its_prior plain attested ancestor) =
       inr (subst (IsAncestor setting setting.last object low)
-      (one_candidate setting early.lasting early.one setting.last setting.last (omega arith) (omega arith) object between
+      (one_candidate setting early.lasting early.one setting.last setting.last (omega arith) (omega arith)
+      object between
       base (accepted_by_attested setting early.lasting setting.last object between attested) based
       (sym its_prior ∙ prior))
       ancestor)

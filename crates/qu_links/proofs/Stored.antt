@@ -32,7 +32,8 @@ module _ (setting : Setting) (early : Early setting) (State : Type 0) (link : St
       → LinksAre setting time object candidate (link state)
   links_by time bound past object stamp state candidate (opened begun is_opening empty) accepted same =
       subst (λ (it : Candidate). LinksAre setting time object it (link state))
-      (one_candidate setting early.lasting early.one setting.last setting.last (omega arith) (omega arith) object opening
+      (one_candidate setting early.lasting early.one setting.last setting.last (omega arith) (omega arith)
+      object opening
       candidate begun accepted (sym is_opening ∙ sym same))
       (links-opening setting early time object (link state) begun empty)
   links_by time bound past object stamp state candidate (made at within base maker before is_stamp new rests held over)

@@ -23,6 +23,7 @@ with_none values (part ∷ parts) = refl
 -- where the parts or the values are at an end
 pub with_values_end : {X : Type 0} (values : List Value) (parts : List (ObjectId × X)) (made : List Value) (at : ℕ)
     → (length parts ≤ at) ⊎ (length made ≤ at) → with_values values (drop at parts) (drop at made) ≡ values
-with_values_end values parts made at (inl all) = ap (λ rest. with_values values rest (drop at made)) (drop_all at parts all)
+with_values_end values parts made at (inl all) =
+    ap (λ rest. with_values values rest (drop at made)) (drop_all at parts all)
 with_values_end values parts made at (inr all) =
     ap (with_values values (drop at parts)) (drop_all at made all) ∙ with_none values (drop at parts)

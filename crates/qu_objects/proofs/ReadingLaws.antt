@@ -42,7 +42,8 @@ objects_rise form known before (part ∷ later) fits =
 pub in_order : {X : Type 0} (form : Format X) (known : ObjectId → Bool) (parts : List (ObjectId × X))
     → (parts_form form known).Fits parts → IsTrue (are_parts parts)
 in_order form known parts fits =
-    both_true _ _ (both_true _ _ (le-leb _ _ fits.0.0) (le-leb _ _ fits.0.1)) (objects_rise form known None parts fits.1.1)
+    both_true _ _ (both_true _ _ (le-leb _ _ fits.0.0) (le-leb _ _ fits.0.1))
+    (objects_rise form known None parts fits.1.1)
 
 -- ---- what has a spelling is no longer than it may be
 

@@ -1,4 +1,5 @@
--- Two plans that share an object are one, and copy the same there, also where each is upon seals and by facts of its own:
+-- Two plans that share an object are one, and copy the same there, also where each is upon seals and by facts of its
+-- own:
 -- if they show the same histories, and what the facts tell of the evidence is what one linking tells.
 use Rattle.std.proofs.Common.{◌≡◌, ℕ, List, [], ◌∷◌, Ok, sym, subst, ◌∙◌, inl, inr}
 use Rattle.std.specs.List.{AllByRecursion}

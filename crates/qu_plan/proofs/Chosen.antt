@@ -22,7 +22,8 @@ use Rattle.qu_class.proofs.OfKind.{held_by_order, held_if_repairable, order_of_o
 
 -- a test of what an entry holds
 pub any_of_entries : (test : Candidate → Bool) (entries : List ObjectHistory)
-    → list_any test (candidates_of entries) ≡ list_any (λ (entry : ObjectHistory). list_any test entry.candidates) entries
+    → list_any test (candidates_of entries)
+    ≡ list_any (λ (entry : ObjectHistory). list_any test entry.candidates) entries
 unfolding candidates_of
 any_of_entries test [] = refl
 any_of_entries test (entry ∷ later) =

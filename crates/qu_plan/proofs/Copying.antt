@@ -62,7 +62,8 @@ module _ (bounds : ℕ) (sets : List SetOf) (link : Linking) where
     pub stamp : base.stamp ≡ record candidate.stamp { time = time }
     pub group : base.group ≡ candidate.group
 
-  pub joined_tells : (candidate : Candidate) (member : ObjectId × ℕ) → is_joined bounds sets link candidate member ≡ true
+  pub joined_tells : (candidate : Candidate) (member : ObjectId × ℕ)
+      → is_joined bounds sets link candidate member ≡ true
       → IsJoined candidate member.0 (chosen member.0)
   unfolding is_joined
   joined_tells candidate member test =
@@ -164,7 +165,8 @@ module _ (bounds : ℕ) (sets : List SetOf) (link : Linking) where
   part_of target candidate [] is object (inl same) = IsPart.alone is same
   part_of target candidate [] is object (inr none) = absurd none
   part_of target candidate (member ∷ later) is object copies =
-      IsPart.joined member later is (copied_joined candidate (filter_map (joint_part bounds sets link candidate) (member ∷ later))
+      IsPart.joined member later is (copied_joined candidate
+      (filter_map (joint_part bounds sets link candidate) (member ∷ later))
       (parts_joined candidate (member ∷ later)) object copies)
 
   -- ---- so plans that share an object are one

@@ -72,7 +72,9 @@ module _ (bounds : ℕ) (sets : List SetOf) (link : Linking) (target : ObjectId)
       → left ≡ not (is_covered bounds sets link target candidate member)
   part_lacks is = by (is_joined bounds sets link candidate member) is
     where
-      by : (joins : Bool) → cond {A = Option (ObjectId × Candidate)} joins (Some (member.0, chosen_on bounds sets link member.0)) None ≡ None
+      by : (joins : Bool)
+          → cond {A = Option (ObjectId × Candidate)} joins (Some (member.0, chosen_on bounds sets link member.0)) None
+          ≡ None
           → not (joins || is_covered bounds sets link target candidate member)
           ≡ not (is_covered bounds sets link target candidate member)
       by true is =

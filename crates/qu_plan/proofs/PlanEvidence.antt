@@ -15,7 +15,7 @@ use Rattle.qu_stamp.specs.Candidate.{opening}
 use Rattle.qu_history.specs.History.{ObjectHistory}
 use Rattle.qu_history.specs.declared.sealed.Sealed.{Sealed}
 use Rattle.qu_history.specs.declared.sets.SetOf.{SetOf}
-use Rattle.qu_history.specs.Sets.{histories, entries_of, candidates_of, object_candidate, if_method, method_at, greatest}
+use Rattle.qu_history.specs.Sets.{histories, entries_of, candidates_of, method_at, greatest}
 use Rattle.qu_plan.specs.declared.plan.PlanFail.{PlanFail}
 use Rattle.qu_plan.specs.declared.plan.PlanFail.TheVariants.{Needs, Stale}
 use Rattle.qu_plan.specs.Chosen.{is_repairable, is_passed, passes_over, is_passed_at, is_skipped, may_be_chosen, greatest_chosen, chosen_on}
@@ -113,7 +113,8 @@ module _ (bounds : ℕ) (sets : List SetOf) (first second : Linking) where
       ap (λ (test : Bool). cond test (candidate ∷ filter (may_be_chosen bounds sets first over) later)
       (filter (may_be_chosen bounds sets first over) later))
       (may_same over agree candidate (λ other beside. read other
-      (or_left (is_beside bounds sets over other candidate) (list_any (is_beside bounds sets over other) later) beside)))
+      (or_left (is_beside bounds sets over other candidate) (list_any (is_beside bounds sets over other) later)
+      beside)))
       ∙ ap (λ (rest : List Candidate). cond (may_be_chosen bounds sets second over candidate) (candidate ∷ rest) rest)
       (kept_same over agree later (λ other beside. read other
       (or_right (is_beside bounds sets over other candidate) (list_any (is_beside bounds sets over other) later)

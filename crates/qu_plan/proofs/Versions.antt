@@ -7,7 +7,7 @@ use Rattle.std.proofs.lemmas.Option.{none-some}
 use Rattle.qu_base.specs.declared.party.ObjectId.{ObjectId}
 use Rattle.qu_history.specs.declared.sets.SetOf.{SetOf}
 use Rattle.qu_history.specs.Sets.{histories, entries_of, candidates_of, object_candidate, if_method, method_at, greatest}
-use Rattle.qu_plan.specs.Chosen.{Version, versions_of}
+use Rattle.qu_plan.specs.Knowledge.{Version, versions_of}
 use Rattle.qu_class.specs.Class.{is_in_sets}
 
 pub object_is : (one other : ObjectId) → one.0 ≡ other.0 → one ≡ other
@@ -47,7 +47,8 @@ module _ (bounds : ℕ) (sets : List SetOf) (object : ObjectId) where
       by : (test : Bool) → ((set.object).0 == object.0) ≡ test
           → (version_in later ≡ Some (object, method_at bounds (entries_of object sets)))
           ⊎ (version_in later ≡ None) × (is_in_sets later object ≡ false)
-          → (cond test (Some (of_set set)) (version_in later) ≡ Some (object, method_at bounds (entries_of object sets)))
+          → (cond test (Some (of_set set)) (version_in later)
+          ≡ Some (object, method_at bounds (entries_of object sets)))
           ⊎ (cond test (Some (of_set set)) (version_in later) ≡ None) × ((test || is_in_sets later object) ≡ false)
       by true is rest =
           inl (ap (λ (it : ObjectId). Some (it, method_at bounds (entries_of it sets)))

@@ -1,6 +1,6 @@
 -- What may be copied on an object. A candidate that was accepted together with one on another object is skipped where
 -- that object has gone on without it.
-use Rattle.std.specs.Prelude.{ℕ, Bool, true, false, not, ◌==◌, ◌&&◌, List, map, filter, Option, None, Some, unwrap_or}
+use Rattle.std.specs.Prelude.{ℕ, Bool, true, false, not, ◌==◌, ◌&&◌, List, filter, Option, None, Some, unwrap_or}
 use Rattle.std.specs.List.{list_any}
 use Rattle.qu_base.specs.Bounds.{repair}
 use Rattle.qu_base.specs.declared.party.ObjectId.{ObjectId}
@@ -10,24 +10,9 @@ use Rattle.qu_stamp.specs.Stamp.{is_below}
 use Rattle.qu_stamp.specs.Candidate.{opening}
 use Rattle.qu_history.specs.declared.sets.SetOf.{SetOf}
 use Rattle.qu_history.specs.Sets.{entries_of, candidates_of, greatest, method_at}
-use Rattle.qu_plan.specs.declared.fact.Fact.{Fact}
 use Rattle.qu_class.specs.Class.{listed_stamp}
 use Rattle.qu_plan.specs.Linking.{Linking}
 use Rattle.qu_class.specs.Repairable.{is_shown_of_kind}
-
--- what a plan is made from
-pub record Knowledge : Type 0 where
-  pub bounds : ℕ
-  pub sets : List SetOf
-  pub facts : List Fact
-
--- an object, and its version of class METHOD
-abbrev pub Version : Type 0
-Version = ObjectId × Option Candidate
-
--- those of the objects of the sets
-unfoldable pub versions_of : ℕ → List SetOf → List Version
-versions_of bounds sets = map (λ (set : SetOf). (set.object, method_at bounds (entries_of set.object sets))) sets
 
 -- without barrier, and of an order that may be repaired
 abbrev pub is_repairable : ℕ → List SetOf → ObjectId → Candidate → Bool

@@ -2,7 +2,7 @@
 ghost use Rattle.std.specs.Prelude.{◌≡◌, ◌==◌, IfOk, find};
 ghost use Rattle.std.specs.Option.{option_copied};
 ghost use Rattle.qu_history.specs.Sets.{entries_of, method_at};
-ghost use Rattle.qu_plan.specs.Chosen.{Version, versions_of};
+ghost use Rattle.qu_plan.specs.Knowledge.{Version, versions_of};
 ghost use Rattle.qu_plan.specs.Linking.{linking};
 
 use super::fact::{Fact, link_of};
@@ -25,7 +25,7 @@ pub(super) struct Known<'k> {
 
 impl<'k> Model for Known<'k> {
     ghost use Rattle.std.specs.Prelude.{◌≡◌};
-    ghost use Rattle.qu_plan.specs.Chosen.{Knowledge, versions_of};
+    ghost use Rattle.qu_plan.specs.Knowledge.{Knowledge, versions_of};
 
     ghost Value = { Knowledge };
 
@@ -57,12 +57,14 @@ impl<'k> Known<'k> {
         })
     }
 
+    /// The sets of the request.
     pub fn sets(&self) -> &'k Sets
         ensures { result.now ≡ self.now.sets }
     {
         self.sets
     }
 
+    /// The bounds of the service.
     pub fn bounds(&self) -> &'k Bounds
         ensures { result.now ≡ self.now.bounds }
     {
@@ -88,7 +90,7 @@ impl<'k> Known<'k> {
     }
 }
 
-#[tactic(auto, unfolding(crate::specs::Chosen::versions_of))]
+#[tactic(auto, unfolding(crate::specs::Knowledge::versions_of))]
 fn versions_of(
     alloc: Global,
     sets: &Sets,

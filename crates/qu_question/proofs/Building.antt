@@ -19,7 +19,8 @@ use Rattle.qu_question.proofs.Naming.{AreMore, same_named, and_more, with_named-
 
 -- ---- what was named stays named
 
-by_need : (named : List ObjectId) (next : ObjectId → List ObjectId) → ((object : ObjectId) → AreMore named (next object))
+by_need : (named : List ObjectId) (next : ObjectId → List ObjectId)
+    → ((object : ObjectId) → AreMore named (next object))
     → (found : Option ObjectId) → AreMore named (elim found [ None ↦ named | Some object ↦ next object ])
 by_need named next each None = same_named named
 by_need named next each (Some object) = each object

@@ -374,6 +374,7 @@ may_repair state asked target =
 
 pub decision_on-may : (state : ReplicaState) (asked : Asked) (asks : Body) → IsTrue (has_parts asks)
     → MayDecide state (decision_on state asked asks)
-decision_on-may state asked (body.Act parts) are = may_act state asked parts (objects_of parts) (distinct_parts parts are)
+decision_on-may state asked (body.Act parts) are =
+    may_act state asked parts (objects_of parts) (distinct_parts parts are)
 decision_on-may state asked (body.Ask parts) are = may_ask state asked parts (objects_of parts)
 decision_on-may state asked (body.Mend target) are = may_repair state asked target

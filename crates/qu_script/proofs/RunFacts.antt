@@ -153,9 +153,11 @@ lines_more playing after lines index line below is made =
     (λ after. lines_made after (drop (index + 1) lines))) (sym is)
     ∙ ap (λ (it : Result Playing Stopped). then_good it (λ after. lines_made after (drop (index + 1) lines))) made)
 
-pub lines_stop : (playing : Playing) (lines : List (ℕ × Line)) (index : ℕ) (line : ℕ × Line) (fail : ScriptFail) (at : Playing)
+pub lines_stop : (playing : Playing) (lines : List (ℕ × Line)) (index : ℕ) (line : ℕ × Line) (fail : ScriptFail)
+    (at : Playing)
     (meant : Result Playing Stopped) → index < length lines → line ≡ get_or lines index line
-    → lines_made playing (drop index lines) ≡ meant → StopsAs fail at (line_made line.0 playing line.1) → StopsAs fail at meant
+    → lines_made playing (drop index lines) ≡ meant → StopsAs fail at (line_made line.0 playing line.1)
+    → StopsAs fail at meant
 lines_stop playing lines index line fail at meant below is same here =
     stops_as fail at _ meant
     (sym (lines_step playing lines index line below

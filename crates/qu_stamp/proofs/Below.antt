@@ -38,7 +38,8 @@ one_of Equal not_below unlike = absurd (false≢true (sym unlike))
 one_of Greater not_below unlike = refl
 
 -- the first orders, and the later one where they are alike
-pub lt_then : (first later : Ordering) → (is_lt first || (is_eq first && is_lt later)) ≡ is_lt (ordering_then first later)
+pub lt_then : (first later : Ordering) → (is_lt first || (is_eq first && is_lt later))
+    ≡ is_lt (ordering_then first later)
 lt_then Less later = refl
 lt_then Equal later = refl
 lt_then Greater later = refl

@@ -34,8 +34,11 @@ by_number make words (Some number) command is asks =
 joined_by : (test : Bool) (second : List ℕ) (number : ℕ) → bytes_eq (take 6 second) (codes "--gen=") ≡ test
     → cond test (short_number (drop 6 second)) None ≡ Some number
     → (second ≡ codes "--gen=" ++ drop 6 second) × (short_number (drop 6 second) ≡ Some number)
-joined_by true second number same is =
-    (sym (take-append-drop 6 second) ∙ ap (λ (it : List ℕ). it ++ drop 6 second) (same_word (take 6 second) (codes "--gen=") same), is)
+joined_by true second number same is = (
+  sym (take-append-drop 6 second) ∙ ap (λ (it : List ℕ). it ++ drop 6 second)
+      (same_word (take 6 second) (codes "--gen=") same),
+  is,
+)
 joined_by false second number same is = absurd (cc)
 
 joined_asked : (first second : List ℕ) (number : ℕ) → bytes_eq first (codes "sim") ≡ true
@@ -122,7 +125,8 @@ found words (Sim (Summary number)) is = absurd is
 found words Live is = absurd is
 found words (SimGen number) is = by is.asks
   where
-    by : (words ≡ codes "sim" ∷ codes "--gen" ∷ is.digits ∷ []) ⊎ (words ≡ codes "sim" ∷ (codes "--gen=" ++ is.digits) ∷ [])
+    by : (words ≡ codes "sim" ∷ codes "--gen" ∷ is.digits ∷ [])
+        ⊎ (words ≡ codes "sim" ∷ (codes "--gen=" ++ is.digits) ∷ [])
         → alone_command_of words ≡ Some (SimGen number)
     by (inl same) = rw same (ap (option_map SimGen) is.writes)
     by (inr same) = rw same (ap (option_map SimGen) is.writes)

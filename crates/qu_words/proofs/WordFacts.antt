@@ -24,7 +24,8 @@ by_test : (test : Bool) (words : List (List ℕ)) (command : Command) (listed : 
     → are_words words listed.0 ≡ test → cond test (Some listed.1) (command_in others words) ≡ Some command
     → (command_in others words ≡ Some command → Contains others (words, command))
     → Contains (listed ∷ others) (words, command)
-by_test true words command listed others same is among = here words command listed others (same_words words listed.0 same) is
+by_test true words command listed others same is among =
+    here words command listed others (same_words words listed.0 same) is
 by_test false words command listed others other is among = later (words, command) listed others (among is)
 
 found_listed : (set : List Listed) (words : List (List ℕ)) (command : Command) → command_in set words ≡ Some command

@@ -63,8 +63,10 @@ module _ (state : ReplicaState) (fits : StateFits state) where
   shown_lower least lower [] order fit = tt
   shown_lower least lower (sealed ∷ later) order fit =
       let head = (fit.0).0 in
-      let above : least ≤ ((sealed.history).object).0 = leb-true _ _ (head.0).1 in
-      (((((head.0).0, le-leb lower ((sealed.history).object).0 (omega (arith, above, order))), head.1), (fit.0).1), fit.1)
+      let above : least ≤ ((sealed.history).object).0 = leb-true _ _ (head.0).1 in (
+        ((((head.0).0, le-leb lower ((sealed.history).object).0 (omega (arith, above, order))), head.1), (fit.0).1),
+        fit.1,
+      )
 
   -- the replica's own history of an object
   one_shown : (least : ℕ) (object : ObjectId) (history : ObjectHistory) → least ≤ object.0

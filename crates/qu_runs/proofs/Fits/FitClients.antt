@@ -118,7 +118,8 @@ same_asked : (old new : Work) → new.op ≡ old.op → new.number ≡ old.numbe
 same_asked old new op_is number_is more sets_are body_is is = record {
   from_one = subst (λ (it : ℕ). 1 ≤ it) (sym number_is) is.from_one;
   parts = subst HasOpParts (sym op_is) is.parts;
-  named = subst (λ (it : Op). AreNamedFor it new.named) (sym op_is) (more_named old.op old.named new.named more is.named);
+  named =
+      subst (λ (it : Op). AreNamedFor it new.named) (sym op_is) (more_named old.op old.named new.named more is.named);
   asked = subst (λ (it : List SetOf). FitAsked it new.body) (sym sets_are)
       (subst (λ (it : Body). FitAsked old.sets it) (sym body_is) is.asked);
 }

@@ -165,7 +165,8 @@ module _ (trace : Trace) (is_run : IsRun trace) (have : ArePlain trace) (clients
     turn_begun time operation among parts it =
         let within : time < (setting trace).last = (it.turn).within in
         let made = made_before trace is_run have (suc time) (omega (arith, last_is trace, within)) it.object
-        it.candidate (accepted_by_decided (setting trace) laws.lasting (suc time) it.object it.candidate (it.turn).after)
+        it.candidate (accepted_by_decided (setting trace) laws.lasting (suc time) it.object it.candidate
+        (it.turn).after)
         (acts trace (update_of operation parts) it.object it.candidate it.is_of) in
         let past : ℕ = made.0 in
         let earlier : past < suc time = made.1 in

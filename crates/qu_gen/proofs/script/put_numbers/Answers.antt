@@ -19,7 +19,8 @@ returns c =
     ≡ string_bytes c.args.text.now ++ (head ++ (decimal c.args.number ++ 10 ∷ tail)) =
     rw c.in_ok-write.ensures.bytes (first_of (
       search rules,
-      search (ap (λ rest. string_bytes c.args.text.now ++ rest) (append_assoc head (decimal c.args.number) (10 ∷ tail))),
+      search (ap (λ rest. string_bytes c.args.text.now ++ rest)
+          (append_assoc head (decimal c.args.number) (10 ∷ tail))),
       search (append_assoc),
       simp (append_assoc),
       grind (append_assoc),

@@ -6,4 +6,5 @@ use Rattle.qu_language.proofs.words.cut_words.Given as goal
 
 abbrev pub invariant-loop-piece : goal.invariant-loop-piece
 invariant-loop-piece l =
-    map (λ word. word.now) l.words.items ≡ filter has_bytes (map (λ piece. piece.now) (take l.piece-index l.piece-items))
+    map (λ word. word.now) l.words.items
+    ≡ filter has_bytes (map (λ piece. piece.now) (take l.piece-index l.piece-items))

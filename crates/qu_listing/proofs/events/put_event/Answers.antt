@@ -23,7 +23,8 @@ returns-clause-text c =
     let letters = lines_text (letter_lines (length (letters_of earlier) + 1) entry.letters) in
     let front : string_bytes c.put_back.new.text ≡ string_bytes c.args.text.now ++ head = grind (arith, common_steps) in
     let middle : string_bytes c.put_points.new.text ≡ string_bytes c.put_back.new.text ++ points = search rules in
-    let back : string_bytes c.put_letters.new.text ≡ string_bytes c.put_points.new.text ++ letters = grind (arith, common_steps) in
+    let back : string_bytes c.put_letters.new.text ≡ string_bytes c.put_points.new.text ++ letters =
+    grind (arith, common_steps) in
     back ∙ ap (λ (it : List ℕ). it ++ letters) (middle ∙ ap (λ (it : List ℕ). it ++ points) front)
     ∙ append_assoc (string_bytes c.args.text.now ++ head) points letters
     ∙ append_assoc (string_bytes c.args.text.now) head (points ++ letters)

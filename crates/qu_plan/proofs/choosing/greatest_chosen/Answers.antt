@@ -13,7 +13,8 @@ use Rattle.qu_plan.proofs.choosing.greatest_chosen.Goals as goal
 pub loop-entry-preserved : goal.loop-entry-preserved
 loop-entry-preserved c = record {
   value =
-      shown_next (may_be_chosen c.args.known.now.bounds c.args.known.now.sets (linking c.args.known.now.facts) c.args.object)
+      shown_next (may_be_chosen c.args.known.now.bounds c.args.known.now.sets (linking c.args.known.now.facts)
+      c.args.object)
       c.find-entries.result.now
       c.loop-entry.entry-index
       c.entry-item.result c.loop-entry.greatest c.last_chosen-last.result c.greater_found-greatest.result
@@ -31,7 +32,8 @@ loop-entry-preserved c = record {
 pub returns-clause-value : goal.returns-clause-value
 unfolding greatest_chosen
 returns-clause-value c =
-    let test = may_be_chosen c.args.known.now.bounds c.args.known.now.sets (linking c.args.known.now.facts) c.args.object in
+    let test = may_be_chosen c.args.known.now.bounds c.args.known.now.sets (linking c.args.known.now.facts)
+    c.args.object in
     let all : List ObjectHistory = histories c.find-entries.result.now in
     c.loop-entry.invariant.value
     ∙ ap (λ (entries : List ObjectHistory). greatest (filter test (candidates_of entries)))

@@ -7,5 +7,6 @@ use Rattle.qu_plan.proofs.choosing.last_chosen.Given as goal
 -- none of those behind the place passes
 abbrev pub invariant-loop-place : goal.invariant-loop-place
 invariant-loop-place l =
-    greatest (filter (may_be_chosen l.known.bounds l.known.sets (linking l.known.facts) l.object) l.candidates) ≡ greatest
+    greatest (filter (may_be_chosen l.known.bounds l.known.sets (linking l.known.facts) l.object) l.candidates)
+    ≡ greatest
     (filter (may_be_chosen l.known.bounds l.known.sets (linking l.known.facts) l.object) (take l.place l.candidates))

@@ -4,7 +4,8 @@ use Rattle.std.specs.List.{All}
 use Rattle.qu_history.specs.Sets.{entries_of}
 use Rattle.qu_plan.specs.declared.plan.PlanFail.{PlanFail}
 use Rattle.qu_plan.specs.declared.plan.PlanFail.TheVariants.{Needs, Stale, NoMemory}
-use Rattle.qu_plan.specs.Chosen.{Knowledge, chosen_on}
+use Rattle.qu_plan.specs.Chosen.{chosen_on}
+use Rattle.qu_plan.specs.Knowledge.{Knowledge}
 use Rattle.qu_plan.specs.Copying.{first_fail, joint_of}
 use Rattle.qu_plan.specs.Linking.{linking}
 use Rattle.qu_class.specs.Rows.{AreWellFormed}

@@ -1,7 +1,7 @@
 -- What is found is the version of the object.
 use Rattle.std.proofs.Common.{rules, ◌≡◌, List, Some, find}
 use Rattle.std.specs.Prelude.{◌==◌}
-use Rattle.qu_plan.specs.Chosen.{Version, versions_of}
+use Rattle.qu_plan.specs.Knowledge.{Version, versions_of}
 use Rattle.qu_plan.proofs.Versions.{version_there}
 use Rattle.qu_plan.proofs.known.Known.version.Goals as goal
 

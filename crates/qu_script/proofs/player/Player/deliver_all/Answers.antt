@@ -8,7 +8,8 @@ returns-in_err-make_event c =
     let is : c.from_residual.result ≡ Err c.in_err-make_event.field-0.0 = search rules in
     stops_with c.from_residual.result c.in_err-make_event.field-0.0 c.make_event.new.self _ is
     (deliveries_stop c.args.number c.loop-letter.self c.args.letters.now c.loop-letter.letter-index
-    c.in_err-make_event.field-0.0 c.make_event.new.self _ (omega arith) c.loop-letter.invariant c.in_err-make_event.ensures)
+    c.in_err-make_event.field-0.0 c.make_event.new.self _ (omega arith) c.loop-letter.invariant
+    c.in_err-make_event.ensures)
 
 pub loop-letter-preserved : goal.loop-letter-preserved
 loop-letter-preserved c =
