@@ -26,7 +26,7 @@ pub fn request_of(
         client: me,
         number,
         round,
-        sets: sets.copy(alloc)?,
+        sets: sets.copy()?,
         body: body.copy(alloc)?,
         mac: blank_mac(),
     };

@@ -10,6 +10,7 @@ mod list;
 mod no_memory;
 mod outbytes;
 mod party;
+mod shared;
 mod texts;
 
 pub use bad_text::{BadText, ReadFail, Why};
@@ -24,4 +25,5 @@ pub use list::List;
 pub use no_memory::NoMemory;
 pub use outbytes::Outbytes;
 pub use party::{ClientId, Digest, ObjectId, Party, ReplicaId};
+pub use shared::Shared;
 pub use texts::{is_name_before, put_content, put_entries, put_name};

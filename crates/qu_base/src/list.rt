@@ -32,6 +32,15 @@ impl<T> List<T> {
         }
     }
 
+    /// The empty list with room for so many items, which it takes at once.
+    pub fn with_room(alloc: Global, room: usize) -> Result<List<T>, NoMemory>
+        ensures { IfOk result (λ list. list ≡ []) }
+    {
+        Ok(List {
+            items: Vec::with_capacity(alloc, room)?,
+        })
+    }
+
     pub fn len(&self) -> usize
         ensures { result ≡ length self.now }
     {

@@ -1,4 +1,4 @@
-ghost use Rattle.std.specs.Prelude.{◌≡◌, [], ◌++◌, length, take, OnOk, OnErr};
+ghost use Rattle.std.specs.Prelude.{◌≡◌, [], ◌++◌, length, take, IfOk, OnOk, OnErr};
 ghost use Rattle.std.specs.Int.{w8, w16, w64, to_be_bytes, from_bool};
 
 use super::{List, NoMemory};
@@ -27,6 +27,15 @@ impl Outbytes {
         Outbytes {
             bytes: Vec::new(alloc),
         }
+    }
+
+    /// The empty text with room for so many bytes, which it takes at once.
+    pub fn with_room(alloc: Global, room: usize) -> Result<Outbytes, NoMemory>
+        ensures { IfOk result (λ out. out ≡ []) }
+    {
+        Ok(Outbytes {
+            bytes: Vec::with_capacity(alloc, room)?,
+        })
     }
 
     /// Appends a piece. Without memory the text stays as it is.

@@ -56,7 +56,7 @@ fn request(alloc: Global, me: ClientId, work: &Work) -> Result<List<u8>, NoMemor
         client: me,
         number: work.number,
         round: work.round,
-        sets: work.sets.copy(alloc)?,
+        sets: work.sets.copy()?,
         body: work.body.copy(alloc)?,
         mac: blank_mac(),
     };

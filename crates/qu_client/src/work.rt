@@ -3,11 +3,11 @@ ghost use Rattle.std.specs.Prelude.{◌≡◌, IfOk};
 use super::Whom;
 use super::verdicts::has_replied;
 use super::whom::first_object;
-use qu_base::{List, NoMemory, ObjectId, ReplicaId};
+use qu_base::{List, NoMemory, ObjectId, ReplicaId, Shared};
 use qu_frames::{Body, Verdict};
 use qu_history::Sets;
 use qu_objects::Op;
-use qu_question::{Named, Question, Shared};
+use qu_question::{Named, Question};
 use std::alloc::Global;
 
 /// A verdict that counts: the first one of its replica in the round.

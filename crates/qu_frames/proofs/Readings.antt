@@ -71,6 +71,9 @@ module _ (text : List ℕ) (frame : Frame) (fit : AreBytes text) (given : decode
       let some : 0 < length (fields_of frame) = fields_some frame in
       omega (arith, count, fields, some)
 
+  pub said_long : (other : List ℕ) → before_mac other ≡ before_mac text → 32 ≤ length other
+  said_long other same = omega (arith, same_sized other same)
+
   -- and is decoded to the frame with its own HMAC
   pub said_again : (other : List ℕ) → before_mac other ≡ before_mac text
       → decoded other ≡ Ok (with_mac frame (own_mac other))

@@ -10,11 +10,14 @@ use super::{Frame, TEXT_LIMIT};
 use qu_base::{BadText, Cursor, List, NoMemory, Outbytes, ReadFail, Why};
 use std::alloc::Global;
 
+/// Room for the bytes of most frames.
+const FRAME_ROOM: usize = 1 << 15;
+
 /// The one spelling of a frame.
 pub fn encode(alloc: Global, frame: &Frame) -> Result<List<u8>, NoMemory>
     ensures { IfOk result (λ text. text ≡ frame_form.spell frame.now) }
 {
-    let mut out = Outbytes::new(alloc);
+    let mut out = Outbytes::with_room(alloc, FRAME_ROOM)?;
     append_frame(frame, &mut out)?;
     Ok(out.done())
 }

@@ -147,7 +147,7 @@ fn request_copy(
 ) -> Result<Frame, NoMemory>
     ensures { IfOk result (λ frame. frame ≡ Frames.Request client number round sets.now body.now mac) }
 {
-    let sets = sets.copy(alloc)?;
+    let sets = sets.copy()?;
     let body = body.copy(alloc)?;
     Ok(Frame::Request {
         client,

@@ -22,7 +22,7 @@ pub use formats::formats_are_codes;
 pub use frame::{Body, Frame, Letter};
 pub use input::{Input, LetterName};
 pub use limits::{CULLED_LIMIT, LAST_ROUND, TEXT_LIMIT, limits_are_these};
-pub use reading::Reading;
+pub use reading::{Reading, said_again};
 pub use refusal_number::refusal_numbers_are_these;
 pub use signing::{before_mac, receive, text_digest, with_mac};
 pub use verdict::{ClassCode, Refusal, Verdict};

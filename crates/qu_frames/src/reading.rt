@@ -1,5 +1,5 @@
 //! Requests that are read once for all to whom they go.
-ghost use Rattle.std.specs.Prelude.{◌≡◌, ◌≤◌, ◌↔◌, false, if◌then◌else◌, length, Some, None, IfOk, IfSome, IsNone, IsTrue};
+ghost use Rattle.std.specs.Prelude.{◌≡◌, ◌≤◌, ◌↔◌, false, if◌then◌else◌, length, Some, None, Ok, IfOk, IfSome, IsNone, IsTrue};
 ghost use Rattle.qu_frames.specs.Decoding.{decoded};
 ghost use Rattle.qu_frames.specs.Signing.{before_mac, brought};
 ghost use Rattle.qu_frames.specs.Reading.{is_request, own_mac, request_with};
@@ -137,6 +137,39 @@ impl Reading {
         ensures { result.now ≡ self.now.body }
     {
         &self.body
+    }
+}
+
+/// The frame of a text that says what this request says, which is the frame of the first text: the two share its sets.
+/// None of any other text, and of any other frame.
+pub fn said_again(
+    alloc: Global,
+    frame: &Frame,
+    first: &[u8],
+    text: &[u8],
+) -> Result<Option<Frame>, NoMemory>
+    requires { decoded first.now ≡ Ok frame.now }
+    ensures { IfOk result (λ found. IfSome found (λ again. decoded text.now ≡ Ok again)) }
+{
+    Cursor::new(first).are_bytes();
+    match frame {
+        Frame::Request {
+            client,
+            number,
+            round,
+            sets,
+            body,
+            ..
+        } if before_mac(text) == before_mac(first) => Ok(Some(Frame::Request {
+            client: *client,
+            number: *number,
+            round: *round,
+            sets: sets.copy()?,
+            body: body.copy(alloc)?,
+            mac: own_mac(text),
+        })),
+        Frame::Request { .. } | Frame::Reply { .. } | Frame::Fetch { .. } | Frame::Fetched { .. } =>
+            Ok(None),
     }
 }
 

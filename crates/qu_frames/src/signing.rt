@@ -73,7 +73,7 @@ pub fn receive(
 pub fn with_mac(alloc: Global, text: &[u8], mac: &[u8; 32]) -> Result<List<u8>, NoMemory>
     ensures { IfOk result (λ signed. signed ≡ before_mac text.now ++ mac.now) }
 {
-    let mut out = Outbytes::new(alloc);
+    let mut out = Outbytes::with_room(alloc, text.len())?;
     out.put(before_mac(text))?;
     out.put(mac)?;
     Ok(out.done())

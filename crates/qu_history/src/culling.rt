@@ -24,7 +24,7 @@ impl Culled {
         ensures { IfOk result (λ found. found ≡ self.now) }
     {
         Ok(Culled {
-            sets: self.sets.copy(alloc)?,
+            sets: self.sets.copy()?,
             left: self.left.copy(alloc)?,
         })
     }
@@ -44,10 +44,18 @@ impl History {
     pub fn text(&self, alloc: Global) -> Result<List<u8>, NoMemory>
         ensures { IfOk result (λ text. text ≡ history_form.spell self.now) }
     {
-        let mut out = Outbytes::new(alloc);
+        let mut out = Outbytes::with_room(alloc, room_for(self))?;
         self.write(&mut out)?;
         Ok(out.done())
     }
+}
+
+/// The bytes of a candidate without a group whose stamps have an act each: most candidates take fewer.
+const CANDIDATE_ROOM: usize = 160;
+
+/// Room in which most histories of this length are written.
+pub(crate) fn room_for(history: &History) -> usize {
+    history.len() * CANDIDATE_ROOM
 }
 
 impl Sealed {
@@ -130,7 +138,7 @@ impl Sets {
             &mut left,
         )?;
         Ok(Culled {
-            sets: Sets { objects },
+            sets: Sets::of(alloc, objects)?,
             left,
         })
     }

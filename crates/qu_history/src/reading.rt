@@ -49,7 +49,7 @@ fn next_candidates(
     ensures { Gives (items spelled_candidate (next_candidate object) (λ candidate. Some candidate.stamp) None count)
         result text.old text.new }
 {
-    let mut candidates = List::new(alloc);
+    let mut candidates = List::with_room(alloc, usize::from(count))?;
     let mut before = None;
     for _ in 0..count {
         let candidate = next_candidate(text, object, before)?;

@@ -17,7 +17,7 @@ pub fn read_sets(alloc: Global, text: &mut Cursor) -> Result<Sets, ReadFail>
     text.are_bytes();
     let mut ahead = text.ahead();
     let objects = sets_at(alloc, &mut ahead)?;
-    let Some(sets) = Sets::new(objects) else {
+    let Some(sets) = Sets::new(alloc, objects)? else {
         unreachable!();
     };
     *text = ahead;

@@ -2,7 +2,7 @@ ghost use Rattle.std.specs.Prelude.{◌≡◌, ◌≤◌, ◌↔◌, [], length,
 ghost use Rattle.qu_history.specs.Sets.{is_entry, are_entries, is_set, are_sets, histories, entries_of, order_of, latest_of};
 
 use super::{History, OBJECTS_LIMIT, Sealed, entries};
-use qu_base::{Bounds, List, NoMemory, OBJECT_IDS, ObjectId, REPLICA_IDS};
+use qu_base::{Bounds, List, NoMemory, OBJECT_IDS, ObjectId, REPLICA_IDS, Shared};
 use qu_stamp::{Candidate, Stamp};
 use std::alloc::Global;
 use std::marker::Model;
@@ -26,10 +26,10 @@ impl SetOf {
     }
 }
 
-/// One to eight objects in rising order, each with the histories that some replicas showed of it.
+/// One to eight objects in rising order, each with the histories that some replicas showed of it. Copies share them.
 #[derive(Debug, Drop)]
 pub struct Sets {
-    pub(crate) objects: List<SetOf>,
+    objects: Shared<List<SetOf>>,
 }
 
 impl Model for Sets {
@@ -46,15 +46,24 @@ impl Model for Sets {
 
 impl Sets {
     /// The sets of these objects, if their objects and replicas rise as they should.
-    pub fn new(objects: List<SetOf>) -> Option<Sets>
-        ensures refused { IsNone result ↔ are_sets objects ≡ false }
-        ensures value { IfSome result (λ sets. sets ≡ objects) }
+    pub fn new(alloc: Global, objects: List<SetOf>) -> Result<Option<Sets>, NoMemory>
+        ensures refused { IfOk result (λ found. IsNone found ↔ are_sets objects ≡ false) }
+        ensures value { IfOk result (λ found. IfSome found (λ sets. sets ≡ objects)) }
     {
-        if are_sets(objects.as_slice()) {
-            Some(Sets { objects })
-        } else {
-            None
+        if !are_sets(objects.as_slice()) {
+            return Ok(None);
         }
+        Ok(Some(Sets::of(alloc, objects)?))
+    }
+
+    /// The sets of objects that are as they should be.
+    pub(crate) fn of(alloc: Global, objects: List<SetOf>) -> Result<Sets, NoMemory>
+        requires { IsTrue (are_sets objects) }
+        ensures { IfOk result (λ sets. sets ≡ objects) }
+    {
+        Ok(Sets {
+            objects: Shared::new(alloc, objects)?,
+        })
     }
 
     /// The objects, in rising order.
@@ -62,18 +71,16 @@ impl Sets {
         ensures value { result.now ≡ self.now }
         ensures rising { IsTrue (are_sets result.now) }
     {
-        &self.objects
+        self.objects.get()
     }
 
-    /// Equal sets.
-    pub fn copy(&self, alloc: Global) -> Result<Sets, NoMemory>
+    /// Equal sets, which share the objects.
+    pub fn copy(&self) -> Result<Sets, NoMemory>
         ensures { IfOk result (λ sets. sets ≡ self.now) }
     {
-        let mut objects = List::new(alloc);
-        for set in self.objects.as_slice() {
-            objects.push(set.copy(alloc)?)?;
-        }
-        Ok(Sets { objects })
+        Ok(Sets {
+            objects: self.objects.share()?,
+        })
     }
 
     /// The entries of an object, by rising replica; none where the object is not in the sets.
@@ -82,7 +89,7 @@ impl Sets {
         ensures value { histories result.now ≡ entries_of object self.now }
         ensures few { length result.now ≤ REPLICA_IDS }
     {
-        entries_in(self.objects.as_slice(), object)
+        entries_in(self.objects().as_slice(), object)
     }
 
     /// How many histories the object has, 0 where it is not in the sets.

@@ -9,6 +9,9 @@ use qu_base::{Digest, List, NoMemory, Outbytes};
 use qu_seal::{SETS_TAG, digest};
 use std::alloc::Global;
 
+/// Room for the text of most sets.
+const SETS_ROOM: usize = 1 << 15;
+
 impl Sets {
     /// The digest of the sets: of their objects, each with its histories. It does not depend on HMACs.
     #[tactic(auto, unfolding(crate::specs::Text::sets_digest))]
@@ -24,7 +27,7 @@ impl Sets {
     pub fn text(&self, alloc: Global) -> Result<List<u8>, NoMemory>
         ensures { IfOk result (λ text. text ≡ sets_text self.now) }
     {
-        let mut out = Outbytes::new(alloc);
+        let mut out = Outbytes::with_room(alloc, SETS_ROOM)?;
         append_sets(self.objects().as_slice(), &mut out)?;
         Ok(out.done())
     }

@@ -20,7 +20,7 @@ impl Sets {
             → IfOk result (λ sets. quorum bounds.now ≤ length (entries_of object sets)) }
     {
         let objects = trim_all(alloc, self.objects().as_slice(), bounds)?;
-        Ok(Sets { objects })
+        Sets::of(alloc, objects)
     }
 }
 

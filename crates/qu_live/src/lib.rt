@@ -6,8 +6,6 @@ mod gate;
 mod live;
 mod rounds;
 mod stepping;
-#[cfg(test)]
-mod tests;
 mod turns;
 
 pub use gate::{Gate, OpenGate};

@@ -140,7 +140,7 @@ fn sets_of_object_0(alloc: Global) -> Result<Sets, Fail> {
         object: ObjectId(0),
         entries: List::new(alloc),
     };
-    Ok(Sets::new(List::one(alloc, set)?).ok_or("no sets")?)
+    Ok(Sets::new(alloc, List::one(alloc, set)?)?.ok_or("no sets")?)
 }
 
 /// The request of client 2 to replica 3 in round 3 of operation 4.

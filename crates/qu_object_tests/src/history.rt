@@ -51,7 +51,7 @@ fn sets_with(alloc: Global, entries: List<Sealed>) -> Result<Option<Sets>, Fail>
         object: OBJECT,
         entries,
     };
-    Ok(Sets::new(List::one(alloc, object)?))
+    Ok(Sets::new(alloc, List::one(alloc, object)?)?)
 }
 
 pub(super) fn one_object(alloc: Global, entries: List<Sealed>) -> Result<Sets, Fail> {
@@ -81,7 +81,7 @@ fn tell(sets: &Sets) -> Result<(), Fail> {
 
 #[test]
 fn sets_tell_what_their_histories_hold(rt: HostRuntime) -> Result<(), Fail> {
-    tell(&sets_of(rt.alloc(), 2, 1, 1)?.copy(rt.alloc())?)
+    tell(&sets_of(rt.alloc(), 2, 1, 1)?.copy()?)
 }
 
 /// How many histories are left where so many end with the one update and with the other.
@@ -117,7 +117,10 @@ fn sets_want_replicas_that_rise(rt: HostRuntime) -> Result<(), Fail> {
         (!are_accepted(rt.alloc(), 1, 1)?, "1 twice"),
         (!are_accepted(rt.alloc(), 1, 0)?, "1 and 0"),
         (!are_accepted(rt.alloc(), 0, 16)?, "no replica 16"),
-        (Sets::new(List::new(rt.alloc())).is_none(), "no object"),
+        (
+            Sets::new(rt.alloc(), List::new(rt.alloc()))?.is_none(),
+            "no object",
+        ),
     ])
 }
 

@@ -90,7 +90,7 @@ fn class_with(
     if let Some(candidate) = high {
         put(alloc, &mut sets, HIGH, 3, &candidate)?;
     }
-    let sets = Sets::new(sets).ok_or("no sets")?;
+    let sets = Sets::new(alloc, sets)?.ok_or("no sets")?;
     Ok(classify(&sets, OWN, &Bounds::new(1)?))
 }
 
@@ -150,7 +150,7 @@ fn barred_set(alloc: Global, candidate: &Candidate) -> Result<SetOf, Fail> {
 /// Sets of it alone.
 fn barred(alloc: Global, candidate: &Candidate) -> Result<Sets, Fail> {
     let sets = List::one(alloc, barred_set(alloc, candidate)?)?;
-    Ok(Sets::new(sets).ok_or("no sets")?)
+    Ok(Sets::new(alloc, sets)?.ok_or("no sets")?)
 }
 
 /// What the plan needs, where the sets are of class COPY.
@@ -198,7 +198,7 @@ enum Said {
 fn said_beside(alloc: Global, version: Candidate, link: Option<Stamp>) -> Result<Said, Fail> {
     let mut sets = List::one(alloc, barred_set(alloc, &other())?)?;
     put(alloc, &mut sets, HIGH, 5, &version)?;
-    let sets = Sets::new(sets).ok_or("no sets")?;
+    let sets = Sets::new(alloc, sets)?.ok_or("no sets")?;
     let mut links = List::new(alloc);
     if let Some(stamp) = link {
         links.push(Link { object: OWN, stamp })?;

@@ -116,7 +116,7 @@ pub(super) fn random_sets(
             sets.push(random_set(alloc, words, seed, member, bounds)?)?;
         }
     }
-    Ok(Sets::new(sets).ok_or("no sets")?)
+    Ok(Sets::new(alloc, sets)?.ok_or("no sets")?)
 }
 
 /// The stamp of a candidate without barrier that has this time.

@@ -1,14 +1,15 @@
 //! The histories that the letters of a run show.
-ghost use Rattle.std.specs.Prelude.{◌≡◌, ◌≤◌, [], ◌++◌, map, length, drop, OnOk};
+ghost use Rattle.std.specs.Prelude.{◌≡◌, ◌≤◌, [], ◌++◌, map, length, drop, OnOk, IsTrue};
 ghost use Rattle.std.specs.List.{list_any};
 ghost use Rattle.std.specs.Option.{option_copied};
 ghost use Rattle.qu_trace.specs.Decoded.{frame_sent};
 ghost use Rattle.qu_premise.specs.Forging.{letter_shown, same_history, same_mac, is_like, is_showing, was_shown};
 
-use qu_base::{NoMemory, Party, ReplicaId};
+use qu_base::{Digest, NoMemory, Party, ReplicaId};
 use qu_frames::{Frame, Letter};
 use qu_history::{History, Sealed};
 use std::alloc::Global;
+use std::collections::HashMap;
 use std::marker::Model;
 
 /// The histories that a letter shows, and the party that sent it.
@@ -39,6 +40,8 @@ impl<'a> Shown<'a> {
 #[derive(Drop)]
 pub struct ShownSoFar<'a> {
     shown: Vec<Shown<'a>>,
+    /// Of an HMAC the place of a letter that showed a history with it: where that one is looked for first.
+    places: HashMap<Digest, usize>,
 }
 
 impl<'a> Model for ShownSoFar<'a> {
@@ -56,6 +59,7 @@ impl<'a> ShownSoFar<'a> {
     {
         ShownSoFar {
             shown: Vec::new(alloc),
+            places: HashMap::new(alloc),
         }
     }
 
@@ -80,14 +84,36 @@ impl<'a> ShownSoFar<'a> {
         ensures { OnOk result (self.new ≡ self.old ++ map letter_shown letters.now) }
     {
         for (place, letter) in letters.iter().enumerate() {
-            self.shown.push(letter_shown(letter, &frames[place]))?;
+            let shown = letter_shown(letter, &frames[place]);
+            note_places(&mut self.places, self.shown.len(), shown.histories)?;
+            self.shown.push(shown)?;
         }
         Ok(())
     }
 
-    /// Whether the replica of a history showed it, with the same HMAC for this reader. The newest are looked at
-    /// first.
+    /// Whether the replica of a history showed it, with the same HMAC for this reader.
     pub fn has(&self, me: ReplicaId, sealed: &Sealed) -> bool
+        ensures { result ≡ was_shown self.now me sealed.now }
+    {
+        self.is_found(me, sealed) || self.is_among(me, sealed)
+    }
+
+    /// Whether the letter that is looked at first shows it.
+    #[tactic(auto, using(crate::proofs::Lists::any_at))]
+    fn is_found(&self, me: ReplicaId, sealed: &Sealed) -> bool
+        ensures { IsTrue result → IsTrue (was_shown self.now me sealed.now) }
+    {
+        match place_in(&self.places, me, sealed) {
+            Some(place) => match self.shown.get(place) {
+                Some(shown) => is_showing(me, sealed, shown),
+                None => false,
+            },
+            None => false,
+        }
+    }
+
+    /// Whether any letter does. The newest are looked at first.
+    fn is_among(&self, me: ReplicaId, sealed: &Sealed) -> bool
         ensures { result ≡ was_shown self.now me sealed.now }
     {
         self.shown
@@ -95,6 +121,26 @@ impl<'a> ShownSoFar<'a> {
             .rev()
             .any(|shown| is_showing(me, sealed, shown))
     }
+}
+
+/// Notes where histories are shown.
+fn note_places(
+    places: &mut HashMap<Digest, usize>,
+    place: usize,
+    histories: &[Sealed],
+) -> Result<(), NoMemory> {
+    for sealed in histories {
+        for mac in sealed.macs.as_slice() {
+            places.insert(Digest(*mac), place)?;
+        }
+    }
+    Ok(())
+}
+
+/// Where a history with the HMAC of this one for this reader is shown.
+fn place_in(places: &HashMap<Digest, usize>, me: ReplicaId, sealed: &Sealed) -> Option<usize> {
+    let mac = sealed.macs.get(usize::from(me.0))?;
+    places.get(&Digest(*mac)).copied()
 }
 
 /// What a letter shows, which is decoded to this frame.

@@ -1,7 +1,6 @@
 ghost use Rattle.std.specs.Prelude.{◌≡◌, IfOk};
 
-use super::Shared;
-use qu_base::NoMemory;
+use qu_base::{NoMemory, Shared};
 use qu_history::Sealed;
 
 /// What a kept history is to the operation under way.

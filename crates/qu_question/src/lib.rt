@@ -7,9 +7,7 @@ mod named;
 mod needed;
 mod question;
 mod sets;
-mod shared;
 
 pub use kept::{Kept, Mark, copies, keep_all, marked_shown, unmarked};
 pub use named::Named;
 pub use question::{Question, question_of};
-pub use shared::Shared;

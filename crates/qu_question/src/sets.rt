@@ -47,7 +47,7 @@ fn whole_sets(
             entries,
         })?;
     }
-    match Sets::new(sets) {
+    match Sets::new(alloc, sets)? {
         Some(sets) => Ok(sets),
         None => unreachable!(),
     }

@@ -124,7 +124,7 @@ fn all_are_handed(
 fn is_quick(alloc: Global, trace: &Trace, sets: &Sets) -> Result<(), Fail> {
     let base = method_at(sets, COUNTER, &trace.setup.bounds).ok_or("the sets are not current")?;
     let keys = keys()?;
-    let shown = DigestedSets::of(alloc, sets.copy(alloc)?)?;
+    let shown = DigestedSets::of(alloc, sets.copy()?)?;
     all_are_handed(alloc, trace, &keys, &mut started(alloc)?, (&shown, &base))
 }
 

@@ -1,5 +1,5 @@
 //! A run whose letters are decoded, each once.
-ghost use Rattle.std.specs.Prelude.{◌≡◌, ◌≤◌, ◌+◌, ◌++◌, length, map, take, drop, slice_get, Some, IfOk, OnOk};
+ghost use Rattle.std.specs.Prelude.{◌≡◌, ◌≤◌, ◌+◌, ◌++◌, length, map, take, drop, slice_get, Some, IfOk, IfSome, OnOk};
 ghost use Rattle.std.specs.Option.{option_copied, option_flatten};
 ghost use Rattle.qu_frames.specs.Decoding.{decoded};
 ghost use Rattle.qu_trace.specs.declared.trace.Entry.{Entry as AnEntry};
@@ -11,7 +11,7 @@ use super::operation::operations;
 use super::sent::{Sent, Starts, start_at};
 use super::{Entry, Event, Trace};
 use qu_base::{List, NoMemory, ReadFail};
-use qu_frames::{Frame, Letter, decode};
+use qu_frames::{Frame, Letter, decode, said_again};
 use qu_machine::OpRecord;
 use std::alloc::Global;
 use std::marker::Model;
@@ -146,23 +146,47 @@ fn frames_sent(alloc: Global, entries: &[Entry]) -> Result<Vec<Option<Frame>>, N
 {
     let mut frames = Vec::new(alloc);
     for entry in entries {
-        add_frames(alloc, entry.letters.as_slice(), &mut frames)?;
+        let mut found = frames_of(alloc, entry.letters.as_slice())?;
+        frames.append(&mut found)?;
     }
     Ok(frames)
 }
 
-/// Adds the frames of these letters.
-fn add_frames(
-    alloc: Global,
-    letters: &[Letter],
-    frames: &mut Vec<Option<Frame>>,
-) -> Result<(), NoMemory>
-    ensures { OnOk result (frames.new.items ≡ frames.old.items ++ map frame_sent letters.now) }
+/// The frames of these letters.
+fn frames_of(alloc: Global, letters: &[Letter]) -> Result<Vec<Option<Frame>>, NoMemory>
+    ensures { IfOk result (λ frames. frames.items ≡ map frame_sent letters.now) }
 {
-    for letter in letters {
-        frames.push(frame_found(alloc, letter.text.as_slice())?)?;
+    let mut frames = Vec::new(alloc);
+    for (place, letter) in letters.iter().enumerate() {
+        let again = if place == 0 {
+            None
+        } else {
+            frame_again(alloc, &letters[place - 1], &frames[place - 1], letter)?
+        };
+        frames.push(match again {
+            Some(frame) => Some(frame),
+            None => frame_found(alloc, letter.text.as_slice())?,
+        })?;
     }
-    Ok(())
+    Ok(frames)
+}
+
+/// The frame of a letter that says the request of the one before it, which has this frame, to another replica. It is
+/// not decoded, and shares the sets of that request. None of any other letter.
+#[tactic(auto, using(crate::proofs::DecodedLaws::decoded_to))]
+fn frame_again(
+    alloc: Global,
+    before: &Letter,
+    frame: &Option<Frame>,
+    letter: &Letter,
+) -> Result<Option<Frame>, NoMemory>
+    requires { frame.now ≡ frame_sent before.now }
+    ensures { IfOk result (λ found. IfSome found (λ again. frame_sent letter.now ≡ Some again)) }
+{
+    match frame {
+        Some(frame) => said_again(alloc, frame, before.text.as_slice(), letter.text.as_slice()),
+        None => Ok(None),
+    }
 }
 
 /// The frames that events inject.

@@ -3,9 +3,8 @@ ghost use Rattle.std.specs.List.{position};
 ghost use Rattle.std.specs.Option.{option_copied};
 ghost use Rattle.qu_question.specs.Kept.{keep, keep_all, kept_of, same_source};
 
-use super::super::Shared;
 use super::{Kept, Mark};
-use qu_base::{List, NoMemory, ObjectId};
+use qu_base::{List, NoMemory, ObjectId, Shared};
 use qu_history::Sealed;
 use std::alloc::Global;
 

@@ -1,11 +1,11 @@
 ghost use Rattle.std.specs.Prelude.{◌≡◌, IfOk};
 
-use qu_base::NoMemory;
+use super::NoMemory;
 use std::alloc::Global;
 use std::marker::Model;
 use std::sync::Arc;
 
-/// What a client keeps. It can stand in several lists at once, so that a step copies none of it.
+/// An item that can stand in several places at once, so that none of it is copied.
 #[derive(Debug, Drop)]
 pub struct Shared<T> {
     item: Arc<T>,
@@ -38,6 +38,7 @@ impl<T> Shared<T> {
         Ok(Shared { item })
     }
 
+    /// The item.
     pub fn get(&self) -> &T
         ensures { result.now ≡ self.now }
     {

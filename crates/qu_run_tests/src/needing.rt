@@ -1,10 +1,10 @@
 //! An object whose class needs another one, where eight are named and where there is room.
 
-use qu_base::{Bounds, ClientId, Digest, List, ObjectId, ReplicaId};
+use qu_base::{Bounds, ClientId, Digest, List, ObjectId, ReplicaId, Shared};
 use qu_frames::Body;
 use qu_history::{History, Sealed};
 use qu_objects::{Ask, Op, Query};
-use qu_question::{Kept, Mark, Named, Question, Shared, question_of};
+use qu_question::{Kept, Mark, Named, Question, question_of};
 use qu_seal::KeyRing;
 use qu_stamp::{Candidate, Group, Stamp};
 use qu_testing::holds;

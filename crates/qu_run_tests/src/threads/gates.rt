@@ -1,5 +1,5 @@
-use crate::Gate;
 use qu_base::{Party, ReplicaId};
+use qu_live::Gate;
 use std::sync::atomic::{AtomicU64, Ordering};
 use std::thread;
 

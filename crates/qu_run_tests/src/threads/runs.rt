@@ -1,9 +1,9 @@
 //! Runs on threads: that two replicas step at one time, and that the run is in the order which a gate forces.
 
 use super::gates::{BothFirst, OneFirst};
-use crate::{Gate, OpenGate, run_live};
 use qu_base::{Bounds, ClientId, List, ObjectId, Party, ReplicaId};
 use qu_gather::LiveFail;
+use qu_live::{Gate, OpenGate, run_live};
 use qu_objects::{Act, KindName, Method, Op};
 use qu_testing::holds;
 use qu_trace::{Event, Setup, Trace};

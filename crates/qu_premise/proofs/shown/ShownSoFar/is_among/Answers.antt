@@ -3,7 +3,7 @@ use Rattle.std.proofs.lemmas.Iterator.Adapters.{YieldsList-from_rev_slice}
 use Rattle.std.proofs.lemmas.Iterator.Search.{any_from_yields_List}
 use Rattle.qu_premise.specs.Forging.{is_showing}
 use Rattle.qu_premise.proofs.Lists.{any_reversed}
-use Rattle.qu_premise.proofs.shown.ShownSoFar.has.Goals as goal
+use Rattle.qu_premise.proofs.shown.ShownSoFar.is_among.Goals as goal
 
 pub returns : goal.returns
 returns c =

@@ -55,7 +55,7 @@ fn sets(alloc: Global, keys: &KeyRing, latest: Stamp) -> Result<Sets, Fail> {
         object: COUNTER,
         entries: entries(alloc, keys, latest)?,
     };
-    Ok(Sets::new(List::one(alloc, set)?).ok_or("no sets")?)
+    Ok(Sets::new(alloc, List::one(alloc, set)?)?.ok_or("no sets")?)
 }
 
 fn add_one(alloc: Global) -> Result<Body, Fail> {

@@ -3,10 +3,10 @@
 mod gates;
 mod runs;
 
-use crate::{Gate, OpenGate};
 use gates::{InTurn, Together};
 use qu_base::{Bounds, ClientId, List, NoMemory, Party, ReplicaId};
 use qu_frames::{Input, Letter};
+use qu_live::{Gate, OpenGate};
 use qu_post::{Filed, Post, PostState};
 use qu_testing::holds;
 use std::alloc::Global;
