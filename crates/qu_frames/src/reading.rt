@@ -149,7 +149,10 @@ pub fn said_again(
     text: &[u8],
 ) -> Result<Option<Frame>, NoMemory>
     requires { decoded first.now ≡ Ok frame.now }
-    ensures { IfOk result (λ found. IfSome found (λ again. decoded text.now ≡ Ok again)) }
+    ensures value { IfOk result (λ found. IfSome found (λ again. decoded text.now ≡ Ok again)) }
+    ensures same { IfOk result (λ found. IfSome found (λ _. before_mac text.now ≡ before_mac first.now)) }
+    ensures none { IfOk result (λ found. IsNone found → before_mac text.now ≡ before_mac first.now
+        → is_request (Ok frame.now) ≡ false) }
 {
     Cursor::new(first).are_bytes();
     match frame {

@@ -54,7 +54,7 @@ impl History {
 const CANDIDATE_ROOM: usize = 160;
 
 /// Room in which most histories of this length are written.
-pub(crate) fn room_for(history: &History) -> usize {
+fn room_for(history: &History) -> usize {
     history.len() * CANDIDATE_ROOM
 }
 

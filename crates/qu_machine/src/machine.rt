@@ -1,4 +1,4 @@
-ghost use Rattle.std.specs.Prelude.{◌≡◌, ◌<◌, length, map, IfOk, OnOk, OnErr, All};
+ghost use Rattle.std.specs.Prelude.{◌≡◌, ◌<◌, length, map, slice_set, IfOk, OnOk, OnErr, All};
 ghost use Rattle.qu_objects.specs.Kind.{fresh_value};
 ghost use Rattle.qu_machine.specs.Machine.{values_at, with_values, act_answer, act_values, query_answer};
 
@@ -80,6 +80,14 @@ fn put_values<X>(values: &mut [Value], parts: &[(ObjectId, X)], made: List<Value
     ensures { values.new ≡ with_values values.old parts.now made }
 {
     for ((object, _), value) in parts.iter().zip(made.into_vec()) {
-        values[usize::from(object.0)] = value;
+        put_value(values, *object, value);
     }
+}
+
+/// Puts a value in the place of an object.
+fn put_value(values: &mut [Value], object: ObjectId, value: Value)
+    requires { object.0 < length values.old }
+    ensures { values.new ≡ slice_set values.old object.0 value }
+{
+    values[usize::from(object.0)] = value;
 }

@@ -1,15 +1,17 @@
 ghost use Rattle.std.specs.Prelude.{◌≡◌, ◌<◌, ◌+◌, length, IfOk, MatchOption};
 ghost use Rattle.qu_world.specs.Run.{IsRun};
+ghost use Rattle.qu_world.specs.State.{ring_of};
 ghost use Rattle.qu_trace.specs.declared.premises.Premises.{Premises as Answer};
 ghost use Rattle.qu_premise.specs.Answer.{IsAnswer};
 ghost use Rattle.qu_premise.specs.Past.{IsPast};
 
 use super::Premises;
 use super::digests::Digests;
-use super::forging::is_forged;
+use super::forging::{is_forged, ring_of};
 use super::shown::ShownSoFar;
 use super::texts::texts_at;
 use qu_base::NoMemory;
+use qu_seal::KeyRing;
 use qu_trace::DecodedTrace;
 use std::alloc::Global;
 
@@ -41,8 +43,9 @@ fn first_break(alloc: Global, trace: &DecodedTrace<'_>) -> Result<Premises, NoMe
         shown: ShownSoFar::new(alloc),
         digests: Digests::new(alloc),
     };
+    let keys = ring_of(&trace.trace().setup);
     for index in 0..trace.trace().entries.len() {
-        if let Some(broken) = follow(alloc, trace, index, &mut past)? {
+        if let Some(broken) = follow(alloc, trace, &keys, index, &mut past)? {
             return Ok(broken);
         }
     }
@@ -53,10 +56,12 @@ fn first_break(alloc: Global, trace: &DecodedTrace<'_>) -> Result<Premises, NoMe
 fn follow<'a>(
     alloc: Global,
     trace: &'a DecodedTrace<'_>,
+    keys: &KeyRing,
     index: usize,
     past: &mut Past<'a>,
 ) -> Result<Option<Premises>, NoMemory>
     requires run { IsRun trace.now }
+    requires keys { keys.now ≡ ring_of trace.now.setup }
     requires within { index < length trace.now.entries }
     requires past { IsPast trace.now index past.old }
     ensures { IfOk result (λ broken. MatchOption broken (IsPast trace.now (index + 1) past.new)
@@ -67,14 +72,22 @@ fn follow<'a>(
     let event = index as u64 + 1;
     let frame = trace.offered(index);
     let sent = trace.first(index);
-    if is_forged(alloc, &run.setup, &sent, &past.shown, &entry.event, frame)? {
+    if is_forged(
+        alloc,
+        &run.setup,
+        keys,
+        &sent,
+        &past.shown,
+        &entry.event,
+        frame,
+    )? {
         return Ok(Some(Premises::Forged { event }));
     }
     let before = past.shown.len();
     past.shown
         .add(entry.letters.as_slice(), trace.frames_at(index))?;
     let shown = past.shown.since(before);
-    let texts = texts_at(alloc, &past.digests, trace, entry, frame, shown)?;
+    let texts = texts_at(alloc, &past.digests, trace, keys, entry, frame, shown)?;
     past.digests.note_all(alloc, event, texts.as_slice())?;
     match past.digests.first_clash(texts.as_slice()) {
         Some(first) => Ok(Some(Premises::Collide {

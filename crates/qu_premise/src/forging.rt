@@ -32,12 +32,13 @@ struct Way {
 pub fn is_forged(
     alloc: Global,
     setup: &Setup,
+    keys: &KeyRing,
     sent: &Sent<'_>,
     shown: &ShownSoFar<'_>,
     event: &Event,
     frame: Option<&Frame>,
 ) -> Result<bool, NoMemory>
-    requires setup { IsSetup setup.now }
+    requires keys { keys.now ≡ ring_of setup.now }
     requires frame { IsFrameOf (option_copied frame) (offered_by sent.now event.now) }
     ensures { IfOk result (λ forged. forged ≡ is_forged setup.now sent.now shown.now event.now) }
 {
@@ -51,6 +52,7 @@ pub fn is_forged(
                 is_forged_text(
                     alloc,
                     setup,
+                    keys,
                     sent.entries(),
                     shown,
                     way,
@@ -68,6 +70,7 @@ pub fn is_forged(
             is_forged_text(
                 alloc,
                 setup,
+                keys,
                 sent.entries(),
                 shown,
                 way,
@@ -84,19 +87,20 @@ pub fn is_forged(
 fn is_forged_text(
     alloc: Global,
     setup: &Setup,
+    keys: &KeyRing,
     entries: &[Entry],
     shown: &ShownSoFar<'_>,
     way: Way,
     text: &[u8],
     frame: Option<&Frame>,
 ) -> Result<bool, NoMemory>
-    requires setup { IsSetup setup.now }
+    requires keys { keys.now ≡ ring_of setup.now }
     requires frame { option_copied frame ≡ frame_found (decoded text.now) }
     requires sent { IfSome way.from (λ from. IsTrue (was_sent entries.now from way.to text.now)) }
     ensures { IfOk result (λ forged. forged ≡ is_forged_text setup.now entries.now shown.now way.to text.now) }
 {
     match frame {
-        Some(frame) => is_forged_frame(alloc, setup, entries, shown, way, text, frame),
+        Some(frame) => is_forged_frame(alloc, setup, keys, entries, shown, way, text, frame),
         None => Ok(false),
     }
 }
@@ -107,21 +111,22 @@ fn is_forged_text(
 fn is_forged_frame(
     alloc: Global,
     setup: &Setup,
+    keys: &KeyRing,
     entries: &[Entry],
     shown: &ShownSoFar<'_>,
     way: Way,
     text: &[u8],
     frame: &Frame,
 ) -> Result<bool, NoMemory>
-    requires setup { IsSetup setup.now }
+    requires keys { keys.now ≡ ring_of setup.now }
     requires sent { IfSome way.from (λ from. IsTrue (was_sent entries.now from way.to text.now)) }
     ensures { IfOk result (λ forged. forged ≡ is_forged_frame setup.now entries.now shown.now way.to text.now
         (if_signed (ring_of setup.now) way.to text.now (Ok frame.now))) }
 {
     if is_unsent(setup, entries, way, text, frame)
-        || shows_unshown(alloc, setup, shown, way.to, frame)?
+        || shows_unshown(alloc, setup, keys, shown, way.to, frame)?
     {
-        return Ok(frame.is_signed(&ring_of(setup), way.to, text));
+        return Ok(frame.is_signed(keys, way.to, text));
     }
     Ok(false)
 }
@@ -173,17 +178,18 @@ fn is_letter(letter: &Letter, from: Party, to: Party, text: &[u8]) -> bool
 fn shows_unshown(
     alloc: Global,
     setup: &Setup,
+    keys: &KeyRing,
     shown: &ShownSoFar<'_>,
     to: Party,
     frame: &Frame,
 ) -> Result<bool, NoMemory>
-    requires { IsSetup setup.now }
+    requires { keys.now ≡ ring_of setup.now }
     ensures { IfOk result (λ unshown. unshown ≡ shows_unshown setup.now shown.now to frame.now) }
 {
     match (to, frame) {
         (Party::Replica(me), Frame::Request { sets, .. })
             if is_handler(setup, me) && are_known(setup, sets) => {
-            any_unshown(alloc, setup, shown, me, sets)
+            any_unshown(alloc, setup, keys, shown, me, sets)
         }
         (Party::Replica(_) | Party::Client(_), _) => Ok(false),
     }
@@ -210,15 +216,16 @@ pub fn are_known(setup: &Setup, sets: &Sets) -> bool
 fn any_unshown(
     alloc: Global,
     setup: &Setup,
+    keys: &KeyRing,
     shown: &ShownSoFar<'_>,
     me: ReplicaId,
     sets: &Sets,
 ) -> Result<bool, NoMemory>
-    requires { IsSetup setup.now }
+    requires { keys.now ≡ ring_of setup.now }
     ensures { IfOk result (λ any. any ≡ list_any (has_unshown setup.now shown.now me) sets.now) }
 {
     for set in sets.objects().as_slice() {
-        if has_unshown(alloc, setup, shown, me, set)? {
+        if has_unshown(alloc, setup, keys, shown, me, set)? {
             return Ok(true);
         }
     }
@@ -228,15 +235,16 @@ fn any_unshown(
 fn has_unshown(
     alloc: Global,
     setup: &Setup,
+    keys: &KeyRing,
     shown: &ShownSoFar<'_>,
     me: ReplicaId,
     set: &SetOf,
 ) -> Result<bool, NoMemory>
-    requires { IsSetup setup.now }
+    requires { keys.now ≡ ring_of setup.now }
     ensures { IfOk result (λ any. any ≡ has_unshown setup.now shown.now me set.now) }
 {
     for sealed in set.entries.as_slice() {
-        if is_unshown(alloc, setup, shown, me, sealed)? {
+        if is_unshown(alloc, setup, keys, shown, me, sealed)? {
             return Ok(true);
         }
     }
@@ -247,15 +255,16 @@ fn has_unshown(
 fn is_unshown(
     alloc: Global,
     setup: &Setup,
+    keys: &KeyRing,
     shown: &ShownSoFar<'_>,
     me: ReplicaId,
     sealed: &Sealed,
 ) -> Result<bool, NoMemory>
-    requires { IsSetup setup.now }
+    requires { keys.now ≡ ring_of setup.now }
     ensures { IfOk result (λ unshown. unshown ≡ is_unshown setup.now shown.now me sealed.now) }
 {
     if setup.is_faulty(Party::Replica(sealed.history.replica())) || shown.has(me, sealed) {
         return Ok(false);
     }
-    sealed.is_right(alloc, me, &ring_of(setup))
+    sealed.is_right(alloc, me, keys)
 }

@@ -5,7 +5,7 @@ ghost use Rattle.std.specs.Option.{option_copied};
 ghost use Rattle.qu_trace.specs.Decoded.{frame_sent};
 ghost use Rattle.qu_premise.specs.Forging.{letter_shown, same_history, same_mac, is_like, is_showing, was_shown};
 
-use qu_base::{Digest, NoMemory, Party, ReplicaId};
+use qu_base::{NoMemory, Party, ReplicaId};
 use qu_frames::{Frame, Letter};
 use qu_history::{History, Sealed};
 use std::alloc::Global;
@@ -41,7 +41,7 @@ impl<'a> Shown<'a> {
 pub struct ShownSoFar<'a> {
     shown: Vec<Shown<'a>>,
     /// Of an HMAC the place of a letter that showed a history with it: where that one is looked for first.
-    places: HashMap<Digest, usize>,
+    places: HashMap<[u8; 32], usize>,
 }
 
 impl<'a> Model for ShownSoFar<'a> {
@@ -125,22 +125,22 @@ impl<'a> ShownSoFar<'a> {
 
 /// Notes where histories are shown.
 fn note_places(
-    places: &mut HashMap<Digest, usize>,
+    places: &mut HashMap<[u8; 32], usize>,
     place: usize,
     histories: &[Sealed],
 ) -> Result<(), NoMemory> {
     for sealed in histories {
         for mac in sealed.macs.as_slice() {
-            places.insert(Digest(*mac), place)?;
+            places.insert(*mac, place)?;
         }
     }
     Ok(())
 }
 
 /// Where a history with the HMAC of this one for this reader is shown.
-fn place_in(places: &HashMap<Digest, usize>, me: ReplicaId, sealed: &Sealed) -> Option<usize> {
+fn place_in(places: &HashMap<[u8; 32], usize>, me: ReplicaId, sealed: &Sealed) -> Option<usize> {
     let mac = sealed.macs.get(usize::from(me.0))?;
-    places.get(&Digest(*mac)).copied()
+    places.get(mac).copied()
 }
 
 /// What a letter shows, which is decoded to this frame.

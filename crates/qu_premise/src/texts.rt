@@ -7,14 +7,14 @@ ghost use Rattle.qu_frames.specs.Decoding.{decoded};
 ghost use Rattle.qu_frames.specs.Signing.{text_digest};
 ghost use Rattle.qu_trace.specs.Letters.{offered_by};
 ghost use Rattle.qu_trace.specs.Decoded.{frame_found, IsFrameOf};
-ghost use Rattle.qu_world.specs.Run.{IsSetup};
+ghost use Rattle.qu_world.specs.State.{ring_of};
 ghost use Rattle.qu_claims.specs.Digested.{texts_at, sent_texts, body_texts, signed_text, history_text};
 ghost use Rattle.qu_premise.specs.Digesting.{digest_of_text};
 ghost use Rattle.qu_premise.specs.Forging.{letter_shown};
 ghost use Rattle.qu_premise.specs.Texts.{handler_of, request_texts, entry_texts, decoded_texts, reached_texts};
 
 use super::digests::Digests;
-use super::forging::{are_known, is_handler, ring_of};
+use super::forging::{are_known, is_handler};
 use super::reading::culled_text;
 use super::shown::Shown;
 use super::text::Text;
@@ -22,7 +22,7 @@ use qu_base::{ClientId, Digest, List, NoMemory, Party, ReplicaId};
 use qu_frames::{Body, Frame, Letter, before_mac};
 use qu_history::{Sealed, Sets};
 use qu_objects::act_text;
-use qu_seal::{ACT_TAG, FRAME_TAG, SETS_TAG};
+use qu_seal::{ACT_TAG, FRAME_TAG, KeyRing, SETS_TAG};
 use qu_trace::{DecodedTrace, Entry, Event, Setup};
 use std::alloc::Global;
 
@@ -33,17 +33,18 @@ pub fn texts_at(
     alloc: Global,
     digests: &Digests,
     trace: &DecodedTrace<'_>,
+    keys: &KeyRing,
     entry: &Entry,
     frame: Option<&Frame>,
     shown: &[Shown<'_>],
 ) -> Result<List<Text>, NoMemory>
-    requires setup { IsSetup trace.now.setup }
+    requires keys { keys.now ≡ ring_of trace.now.setup }
     requires frame { IsFrameOf (option_copied frame) (offered_by trace.now.entries entry.now.event) }
     requires shown { shown.now ≡ map letter_shown entry.now.letters }
     ensures { IfOk result (λ texts. texts ≡ texts_at trace.now entry.now) }
 {
     let mut texts = List::new(alloc);
-    add_reached(alloc, digests, trace, &entry.event, frame, &mut texts)?;
+    add_reached(alloc, digests, trace, keys, &entry.event, frame, &mut texts)?;
     add_sent(alloc, digests, entry.letters.as_slice(), shown, &mut texts)?;
     Ok(texts)
 }
@@ -53,11 +54,12 @@ fn add_reached(
     alloc: Global,
     digests: &Digests,
     trace: &DecodedTrace<'_>,
+    keys: &KeyRing,
     event: &Event,
     frame: Option<&Frame>,
     texts: &mut List<Text>,
 ) -> Result<(), NoMemory>
-    requires setup { IsSetup trace.now.setup }
+    requires keys { keys.now ≡ ring_of trace.now.setup }
     requires frame { IsFrameOf (option_copied frame) (offered_by trace.now.entries event.now) }
     ensures { OnOk result (texts.new ≡ texts.old
         ++ reached_texts trace.now.setup (offered_by trace.now.entries event.now)) }
@@ -70,6 +72,7 @@ fn add_reached(
                     alloc,
                     digests,
                     setup,
+                    keys,
                     letter.to,
                     letter.text.as_slice(),
                     frame,
@@ -79,7 +82,16 @@ fn add_reached(
             Some(_) | None => Ok(()),
         },
         Event::Inject(to, text) if !setup.is_faulty(*to) => {
-            add_decoded(alloc, digests, setup, *to, text.as_slice(), frame, texts)
+            add_decoded(
+                alloc,
+                digests,
+                setup,
+                keys,
+                *to,
+                text.as_slice(),
+                frame,
+                texts,
+            )
         }
         Event::Invoke(_, _) | Event::Tick(_) | Event::Inject(_, _) => Ok(()),
     }
@@ -91,17 +103,18 @@ fn add_decoded(
     alloc: Global,
     digests: &Digests,
     setup: &Setup,
+    keys: &KeyRing,
     to: Party,
     text: &[u8],
     frame: Option<&Frame>,
     texts: &mut List<Text>,
 ) -> Result<(), NoMemory>
-    requires setup { IsSetup setup.now }
+    requires keys { keys.now ≡ ring_of setup.now }
     requires frame { option_copied frame ≡ frame_found (decoded text.now) }
     ensures { OnOk result (texts.new ≡ texts.old ++ decoded_texts setup.now to text.now (decoded text.now)) }
 {
     match frame {
-        Some(frame) => add_frame(alloc, digests, setup, to, text, frame, texts),
+        Some(frame) => add_frame(alloc, digests, setup, keys, to, text, frame, texts),
         None => Ok(()),
     }
 }
@@ -112,22 +125,24 @@ fn add_frame(
     alloc: Global,
     digests: &Digests,
     setup: &Setup,
+    keys: &KeyRing,
     to: Party,
     text: &[u8],
     frame: &Frame,
     texts: &mut List<Text>,
 ) -> Result<(), NoMemory>
-    requires { IsSetup setup.now }
+    requires { keys.now ≡ ring_of setup.now }
     ensures { OnOk result (texts.new ≡ texts.old ++ decoded_texts setup.now to text.now (Ok frame.now)) }
 {
     let digested = digests.signed_text(alloc, text)?;
-    let handler = handler_of(setup, to, text, frame, digested.digest());
+    let handler = handler_of(setup, keys, to, text, frame, digested.digest());
     let mut histories = List::new(alloc);
     add_entries(alloc, digests, setup, frame, handler, &mut histories)?;
     add_request(
         alloc,
         digests,
         setup,
+        keys,
         frame,
         handler,
         histories.as_slice(),
@@ -151,19 +166,20 @@ fn append(texts: &mut List<Text>, more: List<Text>) -> Result<(), NoMemory>
 #[tactic(auto, unfolding(qu_frames::specs::Signing::is_signed))]
 fn handler_of(
     setup: &Setup,
+    keys: &KeyRing,
     to: Party,
     text: &[u8],
     frame: &Frame,
     digest: Digest,
 ) -> Option<ReplicaId>
-    requires setup { IsSetup setup.now }
+    requires keys { keys.now ≡ ring_of setup.now }
     requires digest { digest ≡ text_digest text.now }
     ensures { result ≡ handler_of setup.now to text.now frame.now }
 {
     let from = frame.sender();
     match to {
         Party::Replica(me)
-            if is_handler(setup, me) && ring_of(setup).verifies(from, to, &digest, frame.mac()) => {
+            if is_handler(setup, me) && keys.verifies(from, to, &digest, frame.mac()) => {
             Some(me)
         }
         Party::Replica(_) | Party::Client(_) => None,
@@ -176,12 +192,13 @@ fn add_request(
     alloc: Global,
     digests: &Digests,
     setup: &Setup,
+    keys: &KeyRing,
     frame: &Frame,
     handler: Option<ReplicaId>,
     histories: &[Text],
     texts: &mut List<Text>,
 ) -> Result<(), NoMemory>
-    requires setup { IsSetup setup.now }
+    requires keys { keys.now ≡ ring_of setup.now }
     requires histories { histories.now ≡ entry_texts setup.now frame.now handler }
     ensures { OnOk result (texts.new ≡ texts.old ++ request_texts setup.now frame.now handler) }
 {
@@ -196,7 +213,7 @@ fn add_request(
                 ..
             },
         ) if are_known(setup, sets) => {
-            let culled = culled_text(alloc, &ring_of(setup), me, sets, histories)?;
+            let culled = culled_text(alloc, keys, me, sets, histories)?;
             texts.push(digests.text(SETS_TAG, culled))?;
             add_body(alloc, digests, *client, *number, body, texts)
         }

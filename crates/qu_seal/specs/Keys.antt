@@ -1,6 +1,6 @@
 -- The keys of pairs of parties, and the HMACs made with them (Query/Update: authenticators, a list of HMACs,
 -- one for each replica).
-use Rattle.std.specs.Prelude.{ℕ, Bool, true, false, ◌&&◌, nat_eq, nat_lt, nat_le, if◌then◌else◌, List, [], ◌∷◌, ◌++◌, map}
+use Rattle.std.specs.Prelude.{ℕ, ◌/◌, ◌%◌, Bool, true, false, ◌&&◌, nat_eq, nat_lt, nat_le, if◌then◌else◌, List, [], ◌∷◌, ◌++◌, map}
 use Rattle.std.specs.List.{range_with_len}
 use Rattle.std.specs.Cmp.Lexicographic.{pointwise}
 use Rattle.std.specs.Int.{w16, w64, to_be_bytes}
@@ -51,8 +51,19 @@ pair_code me other = if is_first me other then party_code me ++ party_code other
 abbrev pub key_label : List ℕ
 key_label = 113 ∷ 117 ∷ 45 ∷ 107 ∷ 101 ∷ 121 ∷ []
 
+-- the key that a seed gives to a pair
+abbrev pub pair_key : ℕ → Party → Party → List ℕ
+pair_key seed me other = hmac_of (to_be_bytes w64 seed) (key_label ++ pair_code me other)
+
 unfoldable pub key_of : Ring → Party → Party → List ℕ
-key_of ring me other = hmac_of (to_be_bytes w64 ring.seed) (key_label ++ pair_code me other)
+key_of ring me other = pair_key ring.seed me other
+
+-- the keys of pairs of replicas in a table, each at 16 times the number of the one and that of the other
+abbrev pub key_at : ℕ → ℕ → List ℕ
+key_at seed place = pair_key seed (Replica (record { 0 = place / 16 })) (Replica (record { 0 = place % 16 }))
+
+unfoldable pub replica_keys : ℕ → List (List ℕ)
+replica_keys seed = map (key_at seed) (range_with_len 0 256)
 
 -- the HMAC of a digest that the first makes for the second
 unfoldable pub seal_of : Ring → Party → Party → Digest → List ℕ

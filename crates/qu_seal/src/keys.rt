@@ -1,8 +1,8 @@
-ghost use Rattle.std.specs.Prelude.{◌≡◌, ◌≤◌, ◌↔◌, ◌++◌, IsTrue, IfOk};
-ghost use Rattle.qu_seal.specs.Keys.{has_party, may_share, have_key, party_code, is_first, pair_code, key_label, key_of, seal_of, verifies, authenticator_of};
+ghost use Rattle.std.specs.Prelude.{◌≡◌, ◌≤◌, ◌<◌, ◌↔◌, ◌++◌, IsTrue, IfOk};
+ghost use Rattle.qu_seal.specs.Keys.{has_party, may_share, have_key, party_code, is_first, pair_code, key_label, pair_key, key_at, replica_keys, key_of, seal_of, verifies, authenticator_of};
 
 use super::hmac;
-use qu_base::{Bounds, Digest, LAST_CLIENT, List, NoMemory, Party, ReplicaId};
+use qu_base::{Bounds, Digest, LAST_CLIENT, List, NoMemory, Party, REPLICA_IDS, ReplicaId};
 use std::alloc::Global;
 use std::fmt;
 use std::marker::Model;
@@ -15,20 +15,35 @@ pub struct KeyRing {
     seed: u64,
     bounds: Bounds,
     clients: u16,
+    /// The keys of pairs of replicas, each at 16 times the number of the one and that of the other.
+    replicas: [[u8; 32]; PLACES],
 }
 
+/// So many replicas there may be.
+const SIDE: usize = 16;
+
+const PLACES: usize = SIDE * SIDE;
+
 impl Model for KeyRing {
-    ghost use Rattle.std.specs.Prelude.{◌≤◌};
+    ghost use Rattle.std.specs.Prelude.{◌≡◌, ◌≤◌};
     ghost use Rattle.qu_base.specs.declared.limits.TheConstants.{LAST_CLIENT};
-    ghost use Rattle.qu_seal.specs.Keys.{Ring};
+    ghost use Rattle.qu_seal.specs.Keys.{Ring, replica_keys};
+    ghost use Rattle.std.proofs.Common.{sym};
 
     ghost Value = { Ring };
 
     ghost view = { λ keys. record { seed = keys.seed; bounds = keys.bounds; clients = keys.clients } };
 
-    ghost invariant = { λ keys. keys.clients ≤ LAST_CLIENT };
+    ghost invariant = { λ keys. (keys.clients ≤ LAST_CLIENT) × (keys.replicas ≡ replica_keys keys.seed) };
 
-    ghost inverse = { λ ring. record { seed = ring.seed; bounds = ring.bounds; clients = ring.clients } };
+    ghost inverse = { λ ring. record {
+      seed = ring.seed;
+      bounds = ring.bounds;
+      clients = ring.clients;
+      replicas = replica_keys ring.seed;
+    } };
+
+    ghost inverse_ok = { λ keys is. λ i. record keys { replicas = sym is.1 i } };
 }
 
 impl KeyRing {
@@ -41,6 +56,7 @@ impl KeyRing {
             seed,
             bounds: *bounds,
             clients,
+            replicas: replica_keys(seed),
         }
     }
 
@@ -113,11 +129,17 @@ impl KeyRing {
     }
 
     /// The key of a pair.
-    #[tactic(auto, unfolding(crate::specs::Keys::key_of))]
+    #[tactic(auto, unfolding(crate::specs::Keys::key_of), using(crate::proofs::Tables::key_there))]
     fn key(&self, me: Party, other: Party) -> [u8; 32]
         ensures { result ≡ key_of self.now me other }
     {
-        hmac(&self.seed.to_be_bytes(), &pair_text(me, other))
+        match (me, other) {
+            (Party::Replica(one), Party::Replica(two))
+                if one.0 < REPLICA_IDS && two.0 < REPLICA_IDS => {
+                self.replicas[SIDE * usize::from(one.0) + usize::from(two.0)]
+            }
+            (Party::Replica(_) | Party::Client(_), _) => pair_key(self.seed, me, other),
+        }
     }
 }
 
@@ -129,6 +151,34 @@ impl fmt::Debug for KeyRing {
             .field("clients", &self.clients)
             .finish_non_exhaustive()
     }
+}
+
+/// The keys of all pairs of replicas.
+fn replica_keys(seed: u64) -> [[u8; 32]; PLACES]
+    ensures { result ≡ replica_keys seed }
+{
+    let mut keys = [[0; 32]; PLACES];
+    for place in 0..PLACES {
+        keys[place] = key_at(seed, place);
+    }
+    keys
+}
+
+/// The key of the replicas at this place.
+fn key_at(seed: u64, place: usize) -> [u8; 32]
+    requires { place < 256 }
+    ensures { result ≡ key_at seed place }
+{
+    let one = ReplicaId((place / SIDE) as u8);
+    let two = ReplicaId((place % SIDE) as u8);
+    pair_key(seed, Party::Replica(one), Party::Replica(two))
+}
+
+/// The key of a pair under a seed.
+fn pair_key(seed: u64, me: Party, other: Party) -> [u8; 32]
+    ensures { result ≡ pair_key seed me other }
+{
+    hmac(&seed.to_be_bytes(), &pair_text(me, other))
 }
 
 /// Whether not both are clients.

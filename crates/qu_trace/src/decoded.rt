@@ -1,5 +1,5 @@
 //! A run whose letters are decoded, each once.
-ghost use Rattle.std.specs.Prelude.{◌≡◌, ◌≤◌, ◌+◌, ◌++◌, length, map, take, drop, slice_get, Some, IfOk, IfSome, OnOk};
+ghost use Rattle.std.specs.Prelude.{◌≡◌, ◌≤◌, ◌+◌, ◌++◌, length, map, take, drop, slice_get, Some, IfOk, IfSome};
 ghost use Rattle.std.specs.Option.{option_copied, option_flatten};
 ghost use Rattle.qu_frames.specs.Decoding.{decoded};
 ghost use Rattle.qu_trace.specs.declared.trace.Entry.{Entry as AnEntry};

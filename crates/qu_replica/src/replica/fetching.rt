@@ -77,13 +77,24 @@ impl Replica {
         ensures room { IfOk result (λ planned. length ((self.now.versions ++ planned.gain.found)
             ++ planned.gain.versions) ≤ MOST_VERSIONS) }
     {
+        let (fetching, letters) = self.asked(fetching, missing)?;
+        let gain = self.with_room(gain.with_fetching(fetching))?;
+        Ok(Planned { gain, letters })
+    }
+
+    /// These fetches with those of the missing versions, and the letters that ask each other replica for them.
+    fn asked(
+        &self,
+        fetching: &[Running],
+        missing: &[(ObjectId, Stamp)],
+    ) -> Result<(List<Running>, List<Letter>), NoMemory>
+        ensures fetching { IfOk result (λ asked. asked.0
+            ≡ with_fetches (self.now.keys.bounds + 1) missing.now fetching.now) }
+        ensures letters { IfOk result (λ asked. asked.1 ≡ fetches_of self.now.keys self.now.me missing.now) }
+    {
         let need = self.keys.bounds().b() + 1;
         let fetching = with_fetches(self.alloc, fetching, need, missing)?;
-        self.check_room(&gain)?;
-        Ok(Planned {
-            gain: gain.with_fetching(fetching),
-            letters: self.fetches(missing)?,
-        })
+        Ok((fetching, self.fetches(missing)?))
     }
 
     /// The letters that ask each other replica for each of these versions.
@@ -252,9 +263,8 @@ impl Replica {
         match first_waiting(self.waiting.as_slice(), object, &stamp) {
             None => {
                 let gain = gain_found(self.alloc, found, held)?.with_fetching(fetching);
-                self.check_room(&gain)?;
                 Ok(Planned {
-                    gain,
+                    gain: self.with_room(gain)?,
                     letters: List::new(self.alloc),
                 })
             }

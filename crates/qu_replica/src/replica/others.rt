@@ -56,8 +56,7 @@ impl Replica {
         ensures may { IfOk result (λ planned. MayGain self.now planned.gain) }
         ensures histories { AreHistories self.now }
     {
-        let gain = Gain::nothing(self.alloc);
-        self.check_room(&gain)?;
+        let gain = self.with_room(Gain::nothing(self.alloc))?;
         Ok(Planned { gain, letters })
     }
 

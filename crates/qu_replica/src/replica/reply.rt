@@ -2,14 +2,15 @@ ghost use Rattle.std.specs.Prelude.{◌≡◌, ◌<◌, ◌≤◌, [], ◌∷◌
 ghost use Rattle.std.specs.List.{AllByRecursion};
 ghost use Rattle.std.specs.Option.{option_copied};
 ghost use Rattle.qu_history.specs.Sealing.{sealed_by};
-ghost use Rattle.qu_fitting.specs.Holding.{accept, accept_all, accepted_of};
+ghost use Rattle.qu_fitting.specs.Holding.{accept, accept_all, accepted_of, stored_all};
 ghost use Rattle.qu_fitting.specs.Holding.{with_histories};
 ghost use Rattle.qu_replica.specs.State.{with_gain};
 ghost use Rattle.qu_replica.specs.Step.{shown, named, reply};
 ghost use Rattle.qu_versions.specs.declared.limits.TheConstants.{MOST_VERSIONS};
 ghost use Rattle.qu_rows.specs.Allowed.{MayAccept, MayAcceptAll};
 ghost use Rattle.qu_replica.specs.Growth.{MayGain};
-ghost use Rattle.qu_waiting.specs.Slots.{TurnFits};
+ghost use Rattle.qu_rows.specs.State.{AreHistories};
+ghost use Rattle.qu_waiting.specs.Slots.{AreSlots, TurnFits};
 
 use super::Replica;
 use crate::planned::{Gain, Planned};
@@ -18,6 +19,7 @@ use qu_base::{List, NoMemory, ObjectId, Party, ReplicaId};
 use qu_frames::{Frame, Letter, Reading, Verdict, blank_mac};
 use qu_history::{AddFail, History, Sealed, Sets};
 use qu_mends::Accepted;
+use qu_versions::Prepared;
 
 impl Replica {
     /// What it will make to answer a request, upon the state with what it gained before.
@@ -56,10 +58,24 @@ impl Replica {
             ≡ accept_all (with_gain self.now gain) accepted.now) }
         ensures may { IfOk result (MayGain self.now) }
     {
-        let histories = self.grown_each(accepted)?;
-        let gain = gain.with_accepted(histories, versions::stored(self.alloc, accepted)?);
-        self.check_room(&gain)?;
+        let (histories, versions) = self.made(accepted)?;
+        let gain = self.with_room(gain.with_accepted(histories, versions))?;
         Ok(gain)
+    }
+
+    /// The histories of the objects of accepted candidates, each with its candidate, and their versions.
+    fn made(&self, accepted: &[Accepted]) -> Result<(List<History>, Prepared), NoMemory>
+        requires { MayAcceptAll self.now accepted.now }
+        ensures histories { IfOk result (λ made. with_histories made.0 self.now.histories
+            ≡ (accept_all self.now accepted.now).histories) }
+        ensures known { IfOk result (λ made. AllByRecursion
+            (λ history. (history.object).0 < length self.now.histories) made.0) }
+        ensures versions { IfOk result (λ made. made.1 ≡ stored_all accepted.now) }
+        ensures own { OnOk result (AreHistories self.now) }
+        ensures slots { OnOk result (AreSlots self.now.waiting) }
+    {
+        let histories = self.grown_each(accepted)?;
+        Ok((histories, versions::stored(self.alloc, accepted)?))
     }
 
     /// The histories of the objects of accepted candidates, each with its candidate.
@@ -77,14 +93,14 @@ impl Replica {
         Ok(grown)
     }
 
-    /// Whether there is a place for the versions that are gained. More than a list holds take more memory than there
-    /// is.
-    pub(super) fn check_room(&self, gain: &Gain) -> Result<(), NoMemory>
-        ensures { OnOk result (length ((self.now.versions ++ gain.now.found) ++ gain.now.versions)
+    /// This gain, where there is a place for its versions. More than a list holds take more memory than there is.
+    pub(super) fn with_room(&self, gain: Gain) -> Result<Gain, NoMemory>
+        ensures value { IfOk result (λ kept. kept ≡ gain) }
+        ensures room { IfOk result (λ kept. length ((self.now.versions ++ kept.found) ++ kept.versions)
             ≤ MOST_VERSIONS) }
     {
         if self.versions.has_place(&gain.found, &gain.versions) {
-            Ok(())
+            Ok(gain)
         } else {
             Err(NoMemory)
         }

@@ -14,8 +14,8 @@ own_mac-requires c =
     readings.said_long c.args.first.now c.args.frame.now (subst AreBytes c.new.ensures.rest c.are_bytes.ensures)
     c.requires c.args.text.now same
 
-pub returns-in_ok-copy-in-Request-2 : goal.returns-in_ok-copy-in-Request-2
-returns-in_ok-copy-in-Request-2 c =
+pub returns-in_ok-copy-in-Request-2-clause-value : goal.returns-in_ok-copy-in-Request-2-clause-value
+returns-in_ok-copy-in-Request-2-clause-value c =
     let request = c.in-Request in
     let frame : Frame =
     Request request.client request.number request.round request.sets request.body request.mac in

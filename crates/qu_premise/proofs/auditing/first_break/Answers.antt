@@ -16,7 +16,7 @@ returns c =
       c.loop-index-test.false,
       c.loop-index.auto.index-end,
       c.len-index-end.ensures,
-      ap (λ (trace : Trace). length trace.entries) c.trace.ensures,
+      ap (λ (trace : Trace). length trace.entries) c.trace-2.ensures,
     ) in
     meets_premises c.args.trace.now c.loop-index.past
     (subst (λ count. IsPast c.args.trace.now count c.loop-index.past) all c.loop-index.invariant)
