@@ -1,4 +1,5 @@
 pub mod Filtering
+pub mod Senders
 pub mod Handled
 pub mod Orders
 pub mod Taken

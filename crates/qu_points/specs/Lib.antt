@@ -1,2 +1,3 @@
 pub mod Points
+pub mod Signed
 pub mod Facts

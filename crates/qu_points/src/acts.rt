@@ -1,22 +1,23 @@
-ghost use Rattle.std.specs.Prelude.{◌≡◌, [], ◌++◌, Ok, IfOk, OnOk};
+ghost use Rattle.std.specs.Prelude.{◌≡◌, [], ◌++◌, Ok, IfOk, OnOk, IfSome};
 ghost use Rattle.std.specs.Option.{option_copied};
 ghost use Rattle.std.specs.List.{list_all, list_any, cons_option};
 ghost use Rattle.qu_base.specs.declared.party.Party.TheVariants as party;
 ghost use Rattle.qu_base.specs.declared.party.ReplicaId.{ReplicaId};
 ghost use Rattle.qu_frames.specs.Decoding.{decoded};
-ghost use Rattle.qu_frames.specs.Signing.{brought};
+ghost use Rattle.qu_frames.specs.Signing.{brought, is_signed};
 ghost use Rattle.qu_trace.specs.Letters.{offered_by};
 ghost use Rattle.qu_trace.specs.Decoded.{frame_found, IsFrameOf};
 ghost use Rattle.qu_world.specs.State.{ring_of};
-ghost use Rattle.qu_world.specs.Run.{IsSetup};
+ghost use Rattle.qu_world.specs.Run.{IsSetup, IsRun};
+ghost use Rattle.qu_points.specs.Signed.{IsSignedBy, client_in};
+ghost use Rattle.qu_base.specs.Format.{AreBytes};
 ghost use Rattle.qu_claims.specs.Handled.{is_of_setup, request_in, request_brought, request_to, handled_by};
 ghost use Rattle.qu_objects.specs.declared.op.Op.TheVariants as op;
 ghost use Rattle.qu_machine.specs.PointTests.{same_op};
 ghost use Rattle.qu_points.specs.Points.{act_in, handled_acts, is_named_act};
 
-use super::verifier::Verifier;
 use qu_base::{ClientId, List, NoMemory, Party, ReplicaId};
-use qu_frames::{Body, Frame};
+use qu_frames::{Body, Frame, Letter};
 use qu_history::Sets;
 use qu_objects::Act;
 use qu_seal::KeyRing;
@@ -29,15 +30,15 @@ pub fn handled_acts(
     alloc: Global,
     trace: &DecodedTrace<'_>,
 ) -> Result<List<(ClientId, u64, Act)>, NoMemory>
-    requires { IsSetup trace.now.setup }
+    requires { IsRun trace.now }
     ensures { IfOk result (λ acts. acts ≡ handled_acts trace.now) }
 {
     let run = trace.trace();
     let mut acts = List::new(alloc);
-    let mut verifier = Verifier::new(ring_of(&run.setup));
+    let keys = ring_of(&run.setup);
     for (index, entry) in run.entries.as_slice().iter().enumerate() {
         let frame = trace.offered(index);
-        add_act(alloc, &mut acts, &mut verifier, trace, &entry.event, frame)?;
+        add_act(alloc, &mut acts, &keys, trace, &entry.event, frame)?;
     }
     Ok(acts)
 }
@@ -54,17 +55,17 @@ fn ring_of(setup: &Setup) -> KeyRing
 fn add_act(
     alloc: Global,
     acts: &mut List<(ClientId, u64, Act)>,
-    verifier: &mut Verifier,
+    keys: &KeyRing,
     trace: &DecodedTrace<'_>,
     event: &Event,
     frame: Option<&Frame>,
 ) -> Result<(), NoMemory>
-    requires keys { verifier.old ≡ ring_of trace.now.setup }
+    requires run { IsRun trace.now }
+    requires keys { keys.now ≡ ring_of trace.now.setup }
     requires frame { IsFrameOf (option_copied frame) (offered_by trace.now.entries event.now) }
-    ensures keys { verifier.new ≡ verifier.old }
-    ensures acts { OnOk result (acts.new ≡ acts.old ++ cons_option (act_in (handled_by trace.now event.now)) []) }
+    ensures { OnOk result (acts.new ≡ acts.old ++ cons_option (act_in (handled_by trace.now event.now)) []) }
 {
-    if let Some(act) = handled_act(alloc, verifier, trace, event, frame)? {
+    if let Some(act) = handled_act(alloc, keys, trace, event, frame)? {
         acts.push(act)?;
     }
     Ok(())
@@ -73,52 +74,65 @@ fn add_act(
 /// The act that an event lets a replica handle.
 fn handled_act(
     alloc: Global,
-    verifier: &mut Verifier,
+    keys: &KeyRing,
     trace: &DecodedTrace<'_>,
     event: &Event,
     frame: Option<&Frame>,
 ) -> Result<Option<(ClientId, u64, Act)>, NoMemory>
-    requires keys { verifier.old ≡ ring_of trace.now.setup }
+    requires run { IsRun trace.now }
+    requires keys { keys.now ≡ ring_of trace.now.setup }
     requires frame { IsFrameOf (option_copied frame) (offered_by trace.now.entries event.now) }
-    ensures keys { verifier.new ≡ verifier.old }
-    ensures act { IfOk result (λ act. act ≡ act_in (handled_by trace.now event.now)) }
+    ensures { IfOk result (λ act. act ≡ act_in (handled_by trace.now event.now)) }
 {
     let setup = &trace.trace().setup;
     match event {
         Event::Deliver(number) => match trace.letter(*number) {
             Some(letter) => act_to(
                 alloc,
-                verifier,
+                keys,
                 setup,
+                client_of(letter),
+                letter.to,
                 letter.text.as_slice(),
                 frame,
-                letter.to,
             ),
             None => Ok(None),
         },
-        Event::Inject(to, text) => act_to(alloc, verifier, setup, text.as_slice(), frame, *to),
+        Event::Inject(to, text) => act_to(alloc, keys, setup, None, *to, text.as_slice(), frame),
         Event::Invoke(_, _) | Event::Tick(_) => Ok(None),
     }
 }
 
-/// The act that a text asks of the party that it reaches. The text is this frame, or none.
+/// The client that sent a letter, if a client did.
+fn client_of(letter: &Letter) -> Option<Party>
+    ensures { result ≡ client_in (letter.now).from }
+{
+    match letter.from {
+        Party::Client(client) => Some(Party::Client(client)),
+        Party::Replica(_) => None,
+    }
+}
+
+/// The act that a text, which is this frame or none, asks of the party that it reaches; the client sent it as a letter,
+/// if there is one.
 #[tactic(auto, using(qu_trace::proofs::DecodedLaws::decoded_to, crate::proofs::Handled::SignedActs::no_request))]
 fn act_to(
     alloc: Global,
-    verifier: &mut Verifier,
+    keys: &KeyRing,
     setup: &Setup,
+    client: Option<Party>,
+    to: Party,
     text: &[u8],
     frame: Option<&Frame>,
-    to: Party,
 ) -> Result<Option<(ClientId, u64, Act)>, NoMemory>
-    requires keys { verifier.old ≡ ring_of setup.now }
+    requires keys { keys.now ≡ ring_of setup.now }
+    requires sent { IfSome client (λ from. IsSignedBy (ring_of setup.now) from to text.now) }
     requires frame { option_copied frame ≡ frame_found (decoded text.now) }
-    ensures keys { verifier.new ≡ verifier.old }
-    ensures act { IfOk result (λ act. act ≡ act_in (request_to setup.now text.now to)) }
+    ensures { IfOk result (λ act. act ≡ act_in (request_to setup.now text.now to)) }
 {
     match (to, frame) {
         (Party::Replica(me), Some(frame)) if me.0 < setup.bounds.n() && !setup.is_faulty(to) => {
-            act_brought(alloc, verifier, setup, text, frame, me)
+            act_brought(alloc, keys, setup, client, me, text, frame)
         }
         (Party::Replica(_) | Party::Client(_), _) => Ok(None),
     }
@@ -128,26 +142,41 @@ fn act_to(
 #[tactic(auto, unfolding(qu_frames::specs::Signing::brought), using(crate::proofs::Handled::SignedActs::signed_act, crate::proofs::Handled::SignedActs::unsigned_act, crate::proofs::Handled::SignedActs::no_act))]
 fn act_brought(
     alloc: Global,
-    verifier: &mut Verifier,
+    keys: &KeyRing,
     setup: &Setup,
+    client: Option<Party>,
+    me: ReplicaId,
     text: &[u8],
     frame: &Frame,
-    me: ReplicaId,
 ) -> Result<Option<(ClientId, u64, Act)>, NoMemory>
-    requires keys { verifier.old ≡ ring_of setup.now }
+    requires keys { keys.now ≡ ring_of setup.now }
+    requires sent { IfSome client (λ from. IsSignedBy (ring_of setup.now) from (party.Replica me) text.now) }
     requires frame { decoded text.now ≡ Ok frame.now }
-    ensures keys { verifier.new ≡ verifier.old }
-    ensures act { IfOk result (λ act. act ≡ act_in (request_brought setup.now me
+    ensures { IfOk result (λ act. act ≡ act_in (request_brought setup.now me
         (brought (ring_of setup.now) (party.Replica me) text.now))) }
 {
     match act_in(alloc, setup, frame)? {
-        Some(act) => {
-            let is_signed = verifier.is_signed(alloc, frame, Party::Replica(me), text)?;
-            Ok(if is_signed { Some(act) } else { None })
-        }
-        None => Ok(None),
+        Some(act) if is_signed(keys, client, Party::Replica(me), text, frame) => Ok(Some(act)),
+        Some(_) | None => Ok(None),
     }
 }
+
+/// Whether the HMAC of a frame is right for the party that it reaches. It is not verified of a frame that its own
+/// client sent as a letter: what a client sends is signed.
+#[tactic(auto, using(crate::proofs::Handled::OwnLetters::own_is_signed))]
+fn is_signed(keys: &KeyRing, client: Option<Party>, to: Party, text: &[u8], frame: &Frame) -> bool
+    requires sent { IfSome client (λ from. IsSignedBy keys.now from to text.now) }
+    requires frame { decoded text.now ≡ Ok frame.now }
+    ensures { result ≡ is_signed keys.now to text.now frame.now }
+{
+    are_bytes(text);
+    client == Some(frame.sender()) || frame.is_signed(keys, to, text)
+}
+
+/// What a slice of bytes holds are bytes. Types keep this, and nothing is computed.
+fn are_bytes(text: &[u8])
+    ensures { AreBytes text.now }
+{}
 
 /// The act that a frame asks for, whichever replica handles it: it does not depend on what is culled of the sets.
 fn act_in(

@@ -8,7 +8,6 @@ mod effects;
 mod facts;
 mod order;
 mod updates;
-mod verifier;
 
 pub use order::printed_order;
 pub use updates::parts_fit;

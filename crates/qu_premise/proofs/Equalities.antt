@@ -18,7 +18,7 @@ use Rattle.qu_stamp.proofs.Order.{same-self, equal_by_same}
 use Rattle.qu_history.specs.History.{ObjectHistory}
 use Rattle.qu_trace.specs.Faulty.{is_same}
 use Rattle.qu_claims.specs.Digested.{Text}
-use Rattle.qu_premise.specs.Digesting.{digest_of_text, same_text}
+use Rattle.qu_premise.specs.Digesting.{same_text}
 use Rattle.qu_premise.specs.Forging.{same_history, same_mac}
 
 pub decides_party : (a b : Party) → Decides (is_same a b) (a ≡ b)
@@ -83,14 +83,3 @@ decides_digest a b = (
       ((bytes_decides a.0 b.0).0 alike),
   λ equal. (bytes_decides a.0 b.0).1 (ap (λ (digest : Digest). digest.0) equal),
 )
-
--- equal bytes under one tag have the digest of the text
-pub digest_of_same : (digest : Digest) (one other : ℕ) (bytes more : List ℕ)
-    → digest ≡ digest_of_text (record { tag = one; bytes = bytes }) → (one == other && pointwise nat_eq bytes more)
-    ≡ true
-    → digest ≡ digest_of_text (record { tag = other; bytes = more })
-digest_of_same digest one other bytes more is alike =
-    let first : Text = record { tag = one; bytes = bytes } in
-    let second : Text = record { tag = other; bytes = more } in
-    let same : first ≡ second = (decides_text first second).0 alike in
-    is ∙ ap digest_of_text same

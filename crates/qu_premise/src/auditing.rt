@@ -88,7 +88,7 @@ fn follow<'a>(
         .add(entry.letters.as_slice(), trace.frames_at(index))?;
     let shown = past.shown.since(before);
     let texts = texts_at(alloc, &past.digests, trace, keys, entry, frame, shown)?;
-    past.digests.note_all(alloc, event, texts.as_slice())?;
+    past.digests.note_all(event, texts.as_slice())?;
     match past.digests.first_clash(texts.as_slice()) {
         Some(first) => Ok(Some(Premises::Collide {
             first,

@@ -1,7 +1,6 @@
 ghost use Rattle.std.specs.Prelude.{◌≡◌, [], ◌∷◌, None, OnOk, IfOk, IfSome};
 ghost use Rattle.qu_base.specs.declared.party.Digest.{Digest as Key};
 ghost use Rattle.qu_claims.specs.Digested.{signed_text, history_text};
-ghost use Rattle.qu_premise.specs.Digesting.{digest_of_text};
 ghost use Rattle.qu_premise.specs.Digests.{look, Notes, clash, first_clash};
 
 use super::text::Text;
@@ -42,37 +41,37 @@ impl Digests {
     }
 
     /// Notes that these texts were digested at this event.
-    pub fn note_all(&mut self, alloc: Global, event: u64, texts: &[Text]) -> Result<(), NoMemory>
+    pub fn note_all(&mut self, event: u64, texts: &[Text]) -> Result<(), NoMemory>
         ensures { OnOk result (Notes (look self.old) (look self.new) event texts.now) }
     {
         for text in texts {
-            self.note(alloc, event, text)?;
+            self.note(event, text)?;
         }
         Ok(())
     }
 
     /// Notes it of one text; nothing is noted where its digest was seen before.
-    fn note(&mut self, alloc: Global, event: u64, text: &Text) -> Result<(), NoMemory>
+    fn note(&mut self, event: u64, text: &Text) -> Result<(), NoMemory>
         ensures { OnOk result (Notes (look self.old) (look self.new) event (text.now ∷ [])) }
     {
         let digest = text.digest();
         if self.seen.contains_key(&digest) {
             return Ok(());
         }
-        let text = text.copy(alloc)?;
+        let text = text.share()?;
         self.sampled
             .insert(sample(text.tag(), text.bytes()), digest)?;
         self.seen.insert(digest, Seen { event, text })?;
         Ok(())
     }
 
-    /// The text with these bytes. Its digest is not computed anew where it was noted.
-    pub fn text(&self, tag: u8, bytes: List<u8>) -> Text
-        ensures { result ≡ record { tag = tag; bytes = bytes } }
+    /// The text with these bytes. Where it was noted its digest is not computed anew.
+    pub fn text(&self, alloc: Global, tag: u8, bytes: List<u8>) -> Result<Text, NoMemory>
+        ensures { IfOk result (λ text. text ≡ record { tag = tag; bytes = bytes }) }
     {
-        match self.known(tag, bytes.as_slice()) {
-            Some(digest) => Text::known(tag, bytes, digest),
-            None => Text::new(tag, bytes),
+        match self.noted(tag, bytes.as_slice())? {
+            Some(text) => Ok(text),
+            None => Text::new(alloc, tag, bytes),
         }
     }
 
@@ -80,8 +79,11 @@ impl Digests {
     pub fn signed_text(&self, alloc: Global, text: &[u8]) -> Result<Text, NoMemory>
         ensures { IfOk result (λ digested. digested ≡ signed_text text.now) }
     {
-        let bytes = List::from_clones(alloc, before_mac(text))?;
-        Ok(self.text(FRAME_TAG, bytes))
+        let bytes = before_mac(text);
+        match self.noted(FRAME_TAG, bytes)? {
+            Some(text) => Ok(text),
+            None => Text::new(alloc, FRAME_TAG, List::from_clones(alloc, bytes)?),
+        }
     }
 
     /// The text of a history.
@@ -89,16 +91,23 @@ impl Digests {
         ensures { IfOk result (λ digested. digested ≡ history_text sealed.now) }
     {
         let bytes = sealed.history.text(alloc)?;
-        Ok(self.text(HISTORY_TAG, bytes))
+        self.text(alloc, HISTORY_TAG, bytes)
     }
 
-    /// The digest of these bytes under this tag, where they were noted.
-    fn known(&self, tag: u8, bytes: &[u8]) -> Option<Digest>
-        ensures { IfSome result (λ digest. digest ≡ digest_of_text (record { tag = tag; bytes = bytes.now })) }
+    /// The text with these bytes under this tag, where it was noted.
+    fn noted(&self, tag: u8, bytes: &[u8]) -> Result<Option<Text>, NoMemory>
+        ensures { IfOk result (λ found. IfSome found (λ text. text ≡ record { tag = tag; bytes = bytes.now })) }
     {
+        match self.last_like(tag, bytes) {
+            Some(seen) => seen.text.if_same(tag, bytes),
+            None => Ok(None),
+        }
+    }
+
+    /// The last text that was noted with the sample of this one.
+    fn last_like(&self, tag: u8, bytes: &[u8]) -> Option<&Seen> {
         let digest = self.sampled.get(&sample(tag, bytes))?;
-        let seen = self.seen.get(digest)?;
-        seen.text.digest_if(tag, bytes)
+        self.seen.get(digest)
     }
 
     /// The earliest event that digested another text with the digest of one of these, all of which were noted.

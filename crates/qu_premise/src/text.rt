@@ -1,16 +1,16 @@
 ghost use Rattle.std.specs.Prelude.{◌≡◌, IfOk, IfSome};
 ghost use Rattle.qu_premise.specs.Digesting.{digest_of_text, same_text};
 
-use qu_base::{Digest, List, NoMemory};
+use qu_base::{Digest, List, NoMemory, Shared};
 use qu_seal::digest;
 use std::alloc::Global;
 use std::marker::Model;
 
-/// A text under the tag of its kind, and its digest.
+/// A text under the tag of its kind, and its digest. The bytes can be held several times.
 #[derive(Debug, Drop)]
 pub struct Text {
     tag: u8,
-    bytes: List<u8>,
+    bytes: Shared<List<u8>>,
     digest: Digest,
 }
 
@@ -27,19 +27,12 @@ impl Model for Text {
 }
 
 impl Text {
-    pub fn new(tag: u8, bytes: List<u8>) -> Text
-        ensures { result ≡ record { tag = tag; bytes = bytes } }
+    pub fn new(alloc: Global, tag: u8, bytes: List<u8>) -> Result<Text, NoMemory>
+        ensures { IfOk result (λ text. text ≡ record { tag = tag; bytes = bytes }) }
     {
         let digest = digest(tag, bytes.as_slice());
-        Text { tag, bytes, digest }
-    }
-
-    /// A text whose digest is known.
-    pub fn known(tag: u8, bytes: List<u8>, digest: Digest) -> Text
-        requires { digest ≡ digest_of_text (record { tag = tag; bytes = bytes }) }
-        ensures { result ≡ record { tag = tag; bytes = bytes } }
-    {
-        Text { tag, bytes, digest }
+        let bytes = Shared::new(alloc, bytes)?;
+        Ok(Text { tag, bytes, digest })
     }
 
     pub fn tag(&self) -> u8
@@ -51,7 +44,7 @@ impl Text {
     pub fn bytes(&self) -> &[u8]
         ensures { result.now ≡ self.now.bytes }
     {
-        self.bytes.as_slice()
+        self.bytes.get().as_slice()
     }
 
     pub fn digest(&self) -> Digest
@@ -60,34 +53,40 @@ impl Text {
         self.digest
     }
 
-    /// The digest of these bytes under this tag, where they are this text.
-    #[tactic(auto, using(crate::proofs::Equalities::digest_of_same))]
-    pub fn digest_if(&self, tag: u8, bytes: &[u8]) -> Option<Digest>
-        ensures { IfSome result (λ digest. digest ≡ digest_of_text (record { tag = tag; bytes = bytes.now })) }
+    /// The text, held once more.
+    pub fn share(&self) -> Result<Text, NoMemory>
+        ensures { IfOk result (λ text. text ≡ self.now) }
     {
-        if self.tag == tag && self.bytes.as_slice() == bytes {
-            Some(self.digest)
-        } else {
-            None
+        let bytes = self.bytes.share()?;
+        Ok(Text {
+            tag: self.tag,
+            bytes,
+            digest: self.digest,
+        })
+    }
+
+    /// The text, held once more, where it has these bytes under this tag.
+    #[tactic(auto, using(crate::proofs::Equalities::decides_text))]
+    pub fn if_same(&self, tag: u8, bytes: &[u8]) -> Result<Option<Text>, NoMemory>
+        ensures { IfOk result (λ found. IfSome found (λ text. text ≡ record { tag = tag; bytes = bytes.now })) }
+    {
+        if self.is(tag, bytes) {
+            return Ok(Some(self.share()?));
         }
+        Ok(None)
     }
 
     /// Whether the two are one text under one tag.
     pub fn is_same(&self, other: &Text) -> bool
         ensures { result ≡ same_text self.now other.now }
     {
-        self.tag == other.tag && self.bytes == other.bytes
+        self.is(other.tag, other.bytes())
     }
 
-    /// An equal text.
-    pub fn copy(&self, alloc: Global) -> Result<Text, NoMemory>
-        ensures { IfOk result (λ text. text ≡ self.now) }
+    /// Whether it has these bytes under this tag.
+    fn is(&self, tag: u8, bytes: &[u8]) -> bool
+        ensures { result ≡ same_text self.now (record { tag = tag; bytes = bytes.now }) }
     {
-        let bytes = self.bytes.copy(alloc)?;
-        Ok(Text {
-            tag: self.tag,
-            bytes,
-            digest: self.digest,
-        })
+        self.tag == tag && self.bytes() == bytes
     }
 }

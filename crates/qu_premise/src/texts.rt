@@ -9,7 +9,6 @@ ghost use Rattle.qu_trace.specs.Letters.{offered_by};
 ghost use Rattle.qu_trace.specs.Decoded.{frame_found, IsFrameOf};
 ghost use Rattle.qu_world.specs.State.{ring_of};
 ghost use Rattle.qu_claims.specs.Digested.{texts_at, sent_texts, body_texts, signed_text, history_text};
-ghost use Rattle.qu_premise.specs.Digesting.{digest_of_text};
 ghost use Rattle.qu_premise.specs.Forging.{letter_shown};
 ghost use Rattle.qu_premise.specs.Texts.{handler_of, request_texts, entry_texts, decoded_texts, reached_texts};
 
@@ -214,7 +213,7 @@ fn add_request(
             },
         ) if are_known(setup, sets) => {
             let culled = culled_text(alloc, keys, me, sets, histories)?;
-            texts.push(digests.text(SETS_TAG, culled))?;
+            texts.push(digests.text(alloc, SETS_TAG, culled)?)?;
             add_body(alloc, digests, *client, *number, body, texts)
         }
         _ => Ok(()),
@@ -235,7 +234,7 @@ fn add_body(
     match body {
         Body::Act(act) => {
             let bytes = act_text(alloc, client, number, act)?;
-            texts.push(digests.text(ACT_TAG, bytes))
+            texts.push(digests.text(alloc, ACT_TAG, bytes)?)
         }
         Body::Ask(_) | Body::Mend(_) => Ok(()),
     }
@@ -322,8 +321,8 @@ fn add_letter(
     add_histories(alloc, digests, shown.histories(), texts)
 }
 
-/// The text of a frame that is sent, up to its HMAC. Where the same was sent just before, to another receiver, its
-/// digest is known.
+/// The text of a frame that is sent, up to its HMAC. Where the same was sent just before, to another receiver, it is
+/// that one.
 fn sent_frame(
     alloc: Global,
     digests: &Digests,
@@ -332,16 +331,18 @@ fn sent_frame(
 ) -> Result<Text, NoMemory>
     ensures { IfOk result (λ digested. digested ≡ signed_text text.now) }
 {
-    let bytes = List::from_clones(alloc, before_mac(text))?;
-    match digest_of_last(before, FRAME_TAG, bytes.as_slice()) {
-        Some(digest) => Ok(Text::known(FRAME_TAG, bytes, digest)),
-        None => Ok(digests.text(FRAME_TAG, bytes)),
+    match last_if_same(before, FRAME_TAG, before_mac(text))? {
+        Some(same) => Ok(same),
+        None => digests.signed_text(alloc, text),
     }
 }
 
-/// The digest of these bytes under this tag, where they are the last of these texts.
-fn digest_of_last(texts: &[Text], tag: u8, bytes: &[u8]) -> Option<Digest>
-    ensures { IfSome result (λ digest. digest ≡ digest_of_text (record { tag = tag; bytes = bytes.now })) }
+/// The last of these texts, held once more, where it has these bytes under this tag.
+fn last_if_same(texts: &[Text], tag: u8, bytes: &[u8]) -> Result<Option<Text>, NoMemory>
+    ensures { IfOk result (λ found. IfSome found (λ text. text ≡ record { tag = tag; bytes = bytes.now })) }
 {
-    texts.last()?.digest_if(tag, bytes)
+    match texts.last() {
+        Some(text) => text.if_same(tag, bytes),
+        None => Ok(None),
+    }
 }

@@ -17,7 +17,7 @@ use Rattle.qu_stamp.proofs.Order.{is_below-self}
 use Rattle.qu_history.specs.declared.limits.TheConstants.{HISTORY_LIMIT}
 use Rattle.qu_history.specs.declared.sets.SetOf.{SetOf}
 use Rattle.qu_history.specs.History.{ObjectHistory, holds}
-use Rattle.qu_history.specs.Sets.{histories, latest_of}
+use Rattle.qu_history.specs.Sets.{latest_of}
 use Rattle.qu_history.proofs.RightSeals.{culled_whole}
 use Rattle.qu_objects.specs.declared.act.Method.{Method}
 use Rattle.qu_objects.specs.declared.state.ObjState.{ObjState}

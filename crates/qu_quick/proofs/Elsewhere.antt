@@ -1,5 +1,5 @@
 -- An event that does not happen at a client leaves its state, sends no letter of it and ends none of its operations.
-use Rattle.std.proofs.Common.{◌≡◌, ◌≢◌, ℕ, zero, suc, ◌+◌, ◌<◌, ◌==◌, ◌&&◌, true, List, [], ◌∷◌, length, get_or, Option, None, Some, refl, sym, ap, subst, ◌∙◌, arith}
+use Rattle.std.proofs.Common.{◌≡◌, ◌≢◌, ℕ, zero, suc, ◌+◌, ◌<◌, ◌==◌, ◌&&◌, List, [], ◌∷◌, length, get_or, Option, None, Some, refl, sym, ap, subst, ◌∙◌, arith}
 use Rattle.std.specs.Prelude.{slice_get, option_map}
 use Rattle.std.specs.List.{All, AllByRecursion}
 use Rattle.std.proofs.lemmas.Bool.{cond_both, false≢true, and_parts, eqb-true}
@@ -7,24 +7,14 @@ use Rattle.std.proofs.lemmas.List.Elements.{All-nil, All-cons}
 use Rattle.std.proofs.lemmas.Option.{get_or_from_slice_get, slice_get_within, none-some, same_Some}
 use Rattle.qu_base.specs.Bounds.{replicas}
 use Rattle.qu_base.specs.declared.party.ClientId.{ClientId}
-use Rattle.qu_base.specs.declared.party.ObjectId.{ObjectId}
 use Rattle.qu_base.specs.declared.party.Party.{Party}
 use Rattle.qu_base.specs.declared.party.Party.TheVariants as party
 use Rattle.qu_base.specs.declared.party.ReplicaId.{ReplicaId}
 use Rattle.qu_seal.specs.Keys.{Ring}
-use Rattle.qu_stamp.specs.declared.stamp.Stamp.{Stamp}
 use Rattle.qu_objects.specs.declared.op.Outcome.{Outcome}
-use Rattle.qu_objects.specs.declared.state.ObjState.{ObjState}
-use Rattle.qu_frames.specs.declared.frame.Frame.{Frame}
-use Rattle.qu_frames.specs.declared.frame.Frame.TheVariants as frame
 use Rattle.qu_frames.specs.declared.frame.Letter.{Letter}
-use Rattle.qu_frames.specs.Signing.{brought}
-use Rattle.qu_rows.specs.declared.decision.Decision.{Decision}
-use Rattle.qu_rows.specs.declared.decision.Decision.TheVariants.{Answers, Waits}
-use Rattle.qu_rows.specs.Rows.{asked_at, decision_on}
 use Rattle.qu_rows.specs.State.{ReplicaState}
-use Rattle.qu_rows.specs.Waiting.{TakenRequest}
-use Rattle.qu_replica.specs.Step.{fetches_from, fetches_of, version_letters, carried_out, handled, learned, if_handled, replica_on_frame, replica_on_received, replica_step}
+use Rattle.qu_replica.specs.Step.{replica_step}
 use Rattle.qu_client.specs.declared.state.ClientState.{ClientState}
 use Rattle.qu_client.specs.declared.whom.Whom.{Whom}
 use Rattle.qu_client.specs.declared.work.Work.{Work}
@@ -41,7 +31,7 @@ use Rattle.qu_machine.proofs.Equalities.{client_is}
 use Rattle.qu_world.specs.State.{WorldState, numbered, with_numbered, letter_of}
 use Rattle.qu_world.specs.Step.{world_step, moved, at_client, at_replica, received, delivered, ended_by}
 use Rattle.qu_world.specs.Run.{IsRun}
-use Rattle.qu_world.proofs.Each.{each_append, set_other}
+use Rattle.qu_world.proofs.Each.{set_other}
 use Rattle.qu_world.proofs.Steps.{step_cases}
 use Rattle.qu_claims.specs.Carried.{handed, offered}
 use Rattle.qu_claims.specs.Times.{world_after}
@@ -52,60 +42,11 @@ use Rattle.qu_runs.proofs.Fits.ClientLetters.{step_sends, tick_sends, invoke_sen
 use Rattle.qu_runs.proofs.Worlds.Keyed.{clients_keyed}
 use Rattle.qu_runs.proofs.Worlds.WorldGrowth.{world_after-next}
 use Rattle.qu_claims.specs.Quick.{party_of, IsElsewhere}
+use Rattle.qu_points.proofs.Senders.{IsOfReplica, replica_sends}
 
 -- ---- whose letters a step sends
 
--- a replica's are its own
-abbrev IsOfReplica : Letter → Type 0
-IsOfReplica letter = is_replica letter.from ≡ true
-
-fetches_from-of : (keys : Ring) (me : ReplicaId) (key : ObjectId × Stamp) (replica count : ℕ)
-    → AllByRecursion IsOfReplica (fetches_from keys me key replica count)
-unfolding fetches_from
-fetches_from-of keys me key replica zero = tt
-fetches_from-of keys me key replica (suc count) =
-    cond_both (replica == me.0) _ _ (AllByRecursion IsOfReplica) (λ _. fetches_from-of keys me key (replica + 1) count)
-    (λ _. (refl, fetches_from-of keys me key (replica + 1) count))
-
-fetches_of-of : (keys : Ring) (me : ReplicaId) (missing : List (ObjectId × Stamp))
-    → AllByRecursion IsOfReplica (fetches_of keys me missing)
-unfolding fetches_of
-fetches_of-of keys me [] = tt
-fetches_of-of keys me (key ∷ later) =
-    each_append IsOfReplica _ _ (fetches_from-of keys me key 0 (replicas keys.bounds)) (fetches_of-of keys me later)
-
-version_letters-of : (state : ReplicaState) (to : ReplicaId) (object : ObjectId) (stamp : Stamp)
-    (found : Option ObjState) → AllByRecursion IsOfReplica (version_letters state to object stamp found)
-version_letters-of state to object stamp None = tt
-version_letters-of state to object stamp (Some version) = (refl, tt)
-
-carried_out-of : (state : ReplicaState) (request : TakenRequest) (decision : Decision)
-    → AllByRecursion IsOfReplica (carried_out state request decision).1
-carried_out-of state request (Answers verdict accepted) = (refl, tt)
-carried_out-of state request (Waits missing) = fetches_of-of state.keys state.me missing
-
-if_handled-of : (state : ReplicaState) (found : Option TakenRequest)
-    → AllByRecursion IsOfReplica (if_handled state found).1
-if_handled-of state None = tt
-if_handled-of state (Some request) =
-    carried_out-of state request
-    (decision_on state (asked_at state request.client request.number request.sets request.body) request.body)
-
-on_frame-of : (state : ReplicaState) (sent : Frame) → AllByRecursion IsOfReplica (replica_on_frame state sent).1
-on_frame-of state (frame.Request client number round sets body mac) =
-    if_handled-of state (handled state (frame.Request client number round sets body mac))
-on_frame-of state (frame.Fetched replica object stamp version mac) =
-    if_handled-of (learned state (frame.Fetched replica object stamp version mac))
-    (handled state (frame.Fetched replica object stamp version mac))
-on_frame-of state (frame.Fetch replica object stamp mac) = version_letters-of state replica object stamp _
-on_frame-of state (frame.Reply replica client number round verdict culled shown mac) = tt
-
-on_received-of : (state : ReplicaState) (found : Option Frame)
-    → AllByRecursion IsOfReplica (replica_on_received state found).1
-on_received-of state None = tt
-on_received-of state (Some sent) = on_frame-of state sent
-
--- and a client's its own
+-- a client's are its own
 abbrev IsOfClient : ClientId → Letter → Type 0
 IsOfClient me letter = letter.from ≡ party.Client me
 
@@ -180,7 +121,7 @@ of_replica : (client : ClientId) (state : ReplicaState) (text : List ℕ)
 of_replica client state text = record {
   others = all_of (λ (letter : Letter). letter.from ≢ party.Client client) (replica_step state text).1
       (each_weaker IsOfReplica (λ (letter : Letter). letter.from ≢ party.Client client) (not_of_replica client)
-      (replica_step state text).1 (on_received-of state (brought state.keys (party.Replica state.me) text)));
+      (replica_step state text).1 (replica_sends state text));
   none_ends = λ number. refl;
 }
 

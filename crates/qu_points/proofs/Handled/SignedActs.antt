@@ -1,15 +1,10 @@
--- The act of a frame counts where the frame's HMAC is right, and equal bytes have one digest.
+-- The act of a frame counts where the frame's HMAC is right.
 use Rattle.std.proofs.Common.{◌≡◌, ℕ, Bool, true, false, cond, List, Option, None, Some, Result, Ok, Err, refl, sym, ap, ◌∙◌}
-use Rattle.std.specs.Prelude.{nat_eq}
-use Rattle.std.specs.Cmp.Lexicographic.{pointwise, bytes_decides}
-use Rattle.qu_base.specs.declared.party.Digest.{Digest}
 use Rattle.std.proofs.lemmas.Option.{none-some}
 use Rattle.qu_base.specs.declared.bad_text.BadText.{BadText}
 use Rattle.qu_base.specs.declared.party.Party.{Party}
 use Rattle.qu_base.specs.declared.party.Party.TheVariants as party
 use Rattle.qu_base.specs.declared.party.ReplicaId.{ReplicaId}
-use Rattle.qu_seal.specs.declared.constants.TheConstants.{FRAME_TAG}
-use Rattle.qu_seal.specs.Digesting.{digest_of}
 use Rattle.qu_seal.specs.Keys.{Ring}
 use Rattle.qu_frames.specs.declared.frame.Frame.{Frame}
 use Rattle.qu_frames.specs.Decoding.{decoded}
@@ -64,8 +59,3 @@ no_request setup text (party.Replica me) none = without (is_handler setup me) (d
     without true (Err bad) is = refl
     without false found is = refl
 no_request setup text (party.Client me) none = refl
-
--- the digest of bytes is that of equal ones
-pub digest_of_same : (digest : Digest) (bytes more : List ℕ) → digest.0 ≡ digest_of FRAME_TAG bytes
-    → pointwise nat_eq bytes more ≡ true → digest.0 ≡ digest_of FRAME_TAG more
-digest_of_same digest bytes more is alike = is ∙ ap (digest_of FRAME_TAG) ((bytes_decides bytes more).0 alike)

@@ -30,8 +30,5 @@ loop-index-preserved c =
     let is : entry ≡ get_or entries index entry =
     c.entry-item.is ∙ ap (λ (it : List Entry). get_or it index entry) items in
     let within : index < length entries = omega (arith, c.loop-index-test.true, ap length items) in
-    record {
-      keys = c.in_ok-add_act.ensures.keys ∙ c.loop-index.invariant.keys;
-      acts = filtered_more (act_at c.args.trace.now) entries index entry c.loop-index.acts c.add_act.new.acts
-          within is c.loop-index.invariant.acts c.in_ok-add_act.ensures.acts;
-    }
+    filtered_more (act_at c.args.trace.now) entries index entry c.loop-index.acts c.add_act.new.acts
+    within is c.loop-index.invariant c.in_ok-add_act.ensures
