@@ -4,3 +4,4 @@ pub mod ScriptFacts
 pub mod SimulationFacts
 pub mod TransferFacts
 pub mod OutputFacts
+pub mod ToldFacts

@@ -3,3 +3,4 @@ pub mod Transfer
 pub mod Report
 pub mod Ends
 pub mod Output
+pub mod Told

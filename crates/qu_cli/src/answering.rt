@@ -4,8 +4,9 @@ ghost use Rattle.qu_words.specs.Words.{IsAlone};
 ghost use Rattle.qu_cli.specs.Transfer.{TakesFew, WritesOrFails};
 ghost use Rattle.qu_cli.specs.Ends.{EndsBad, EndsShort, EndsDone, IsPromised, IsTraced, IsRefused, IsComplete, LeavesInput};
 
-use super::output::{NoOutput, Output, output_for};
-use super::writing::{tell_text, write_text};
+use super::output::output_for;
+use super::telling::tell;
+use super::writing::tell_text;
 use super::{End, Report};
 use qu_io::{Sink, Source};
 use qu_words::Command;
@@ -53,17 +54,5 @@ pub fn answer<S: Source, K: Sink>(
         tell_text(output, usage);
         return Report::from(End::BadWords);
     };
-    match output_for(alloc, command, input) {
-        Ok(Output::Report(trace, text)) => match write_text(output, text.as_slice()) {
-            Ok(()) => Report::with_trace(End::Done, trace),
-            Err(_) => Report::with_trace(End::WriteFault, trace),
-        },
-        Ok(Output::Refusal(text, hint)) => {
-            tell_text(output, text.as_slice());
-            Report::with_hint(hint)
-        }
-        Err(NoOutput::ReadFault) => Report::from(End::ReadFault),
-        Err(NoOutput::NoMemory) => Report::from(End::NoMemory),
-        Err(NoOutput::Torn(_)) => unreachable!(),
-    }
+    tell(output_for(alloc, command, input), output)
 }

@@ -3,10 +3,9 @@ ghost use Rattle.qu_io.specs.Streams.{Rose, IsCalm};
 ghost use Rattle.qu_cli.specs.Transfer.{TakesFew};
 ghost use Rattle.qu_cli.specs.Ends.{EndsBad, EndsShort, EndsDone, IsPromised, IsTraced, IsRefused, IsComplete};
 
+use super::Report;
 use super::live::live_output_for;
-use super::output::{NoOutput, Output};
-use super::writing::{tell_text, write_text};
-use super::{End, Report};
+use super::telling::tell;
 use qu_io::{Sink, Source};
 use qu_live::Gate;
 use qu_words::Command;
@@ -48,17 +47,5 @@ pub fn answer_live<R: Threads + Wait + Sync, S: Source, K: Sink, G: Gate>(
     ensures complete { IsComplete (Some Command.Live) (S.known input.old)
         (S.known input.new) (K.known output.old) (K.known output.new) result.trace result.status }
 {
-    match live_output_for(rt, alloc, input, gate) {
-        Ok(Output::Report(trace, text)) => match write_text(output, text.as_slice()) {
-            Ok(()) => Report::with_trace(End::Done, trace),
-            Err(_) => Report::with_trace(End::WriteFault, trace),
-        },
-        Ok(Output::Refusal(text, hint)) => {
-            tell_text(output, text.as_slice());
-            Report::with_hint(hint)
-        }
-        Err(NoOutput::ReadFault) => Report::from(End::ReadFault),
-        Err(NoOutput::NoMemory) => Report::from(End::NoMemory),
-        Err(NoOutput::Torn(torn)) => Report::with_torn(torn),
-    }
+    tell(live_output_for(rt, alloc, input, gate), output)
 }

@@ -12,6 +12,7 @@ mod refusal;
 mod report;
 mod script;
 mod simulation;
+mod telling;
 mod top;
 mod writing;
 

@@ -37,10 +37,17 @@ impl From<NoMemory> for InvokeFail {
 }
 
 /// One client. Its operations run one at a time.
-#[derive(Debug, Drop)]
+#[derive(Debug)]
 pub struct Client {
     alloc: Global,
     state: ClientState,
+}
+
+/// By hand, so that a value is let go in one step wherever that is.
+impl Drop for Client {
+    fn drop(self) {
+        let Client { alloc: _, state: _ } = self;
+    }
 }
 
 impl Model for Client {

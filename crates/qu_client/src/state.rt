@@ -5,7 +5,7 @@ use qu_question::Kept;
 use qu_seal::KeyRing;
 
 /// What a client holds: the sealed histories that it was sent, and the operation under way.
-#[derive(Debug, Drop)]
+#[derive(Debug)]
 pub struct ClientState {
     pub me: ClientId,
     pub keys: KeyRing,
@@ -16,4 +16,18 @@ pub struct ClientState {
     /// Number and round of the last request.
     pub last_request: Option<(u64, u8)>,
     pub work: Option<Work>,
+}
+
+/// By hand, so that a value is let go in one step wherever that is.
+impl Drop for ClientState {
+    fn drop(self) {
+        let ClientState {
+            me: _,
+            keys: _,
+            waits: _,
+            kept: _,
+            last_request: _,
+            work: _,
+        } = self;
+    }
 }

@@ -11,12 +11,23 @@ use qu_question::{Named, Question};
 use std::alloc::Global;
 
 /// A verdict that counts: the first one of its replica in the round.
-#[derive(Debug, Drop)]
+#[derive(Debug)]
 pub struct Counted {
     pub replica: ReplicaId,
     pub verdict: Shared<Verdict>,
     /// What the reply names as culled.
     pub culled: Shared<List<(ObjectId, ReplicaId)>>,
+}
+
+/// By hand, so that a value is let go in one step wherever that is.
+impl Drop for Counted {
+    fn drop(self) {
+        let Counted {
+            replica: _,
+            verdict: _,
+            culled: _,
+        } = self;
+    }
 }
 
 /// Where an operation stands.

@@ -13,7 +13,7 @@ pub struct LetterName {
 }
 
 /// What an actor makes a step on.
-#[derive(Debug, Drop)]
+#[derive(Debug)]
 pub enum Input {
     /// The bytes of a frame, with the name of the letter that brought them.
     Frame(LetterName, List<u8>),
@@ -21,6 +21,15 @@ pub enum Input {
     Tick,
     /// An operation that begins.
     Invoke(Op),
+}
+
+/// By hand, so that a value is let go in one step wherever that is.
+impl Drop for Input {
+    fn drop(self) {
+        match self {
+            Input::Frame(_, _) | Input::Tick | Input::Invoke(_) => {}
+        }
+    }
 }
 
 impl Input {

@@ -13,7 +13,7 @@ use std::marker::Model;
 
 /// A request as a text says it, with the digests by which its HMACs are verified. Texts that differ in their last
 /// 32 bytes alone say the same, so that one reading serves all replicas to which a client sends the request.
-#[derive(Debug, Drop)]
+#[derive(Debug)]
 pub struct Reading {
     /// The bytes before the HMAC.
     front: List<u8>,
@@ -24,6 +24,21 @@ pub struct Reading {
     round: u8,
     sets: DigestedSets,
     body: Body,
+}
+
+/// By hand, so that a value is let go in one step wherever that is.
+impl Drop for Reading {
+    fn drop(self) {
+        let Reading {
+            front: _,
+            digest: _,
+            client: _,
+            number: _,
+            round: _,
+            sets: _,
+            body: _,
+        } = self;
+    }
 }
 
 impl Model for Reading {

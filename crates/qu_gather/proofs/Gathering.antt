@@ -1,7 +1,6 @@
 -- What all actors kept, told in an order that keeps that of each, is a run on threads.
 use Rattle.std.proofs.Common.{◌≡◌, ℕ, zero, suc, ◌+◌, ◌<◌, Bool, true, false, cond, eqb, List, [], ◌∷◌, ◌++◌, map, length, Option, None, Some, refl, sym, ap, subst, ◌∙◌, append-nil, arith, inl, inr}
 use Rattle.std.specs.Prelude.{option_map, nat_lt, IfSome}
-use Rattle.std.specs.List.{flat_map}
 use Rattle.std.proofs.lemmas.Bool.{cases_Bool, cond_both, eqb-true}
 use Rattle.std.proofs.lemmas.List.{take_all}
 use Rattle.qu_base.specs.declared.party.ClientId.{ClientId}
@@ -29,7 +28,7 @@ use Rattle.qu_lock.specs.Calls.{calls_by}
 use Rattle.qu_lock.specs.Locked.{ClientStands}
 use Rattle.qu_gather.specs.Live.{IsCorrectClient, AreCallsOf, IsLive}
 use Rattle.qu_gather.specs.Correct.{client_at, correct_replicas, correct_clients}
-use Rattle.qu_gather.specs.Gathered.{all_steps, steps_of_replica, steps_of_client, replica_name, client_name, ReplicasStand, ClientsStand, HasEnded, HaveEnded, AreTheirOwn}
+use Rattle.qu_gather.specs.Gathered.{all_steps, replica_name, client_name, ReplicasStand, ClientsStand, HasEnded, HaveEnded, AreTheirOwn}
 use Rattle.qu_gather.proofs.Ended.{ends_told, ends_own, all_own, replays_end, client_balanced}
 use Rattle.qu_gather.specs.Ticks.{late_letter}
 use Rattle.qu_gather.proofs.Recorded.{calls_recorded}
@@ -353,23 +352,18 @@ gathered_live setup calls held others merged entries limits callable own replica
 -- the same of what the calls of the end tell, where the run is named
 pub gathered_run : (setup named : Setup) (calls named_calls : List (ClientId × Op))
     (held held_now : List (ReplicaState × List KeptStep)) (others others_now : List (ClientState × List KeptStep))
-    (none front all merged merged_now : List (Party × KeptStep)) (entries : List Entry)
+    (all merged merged_now : List (Party × KeptStep)) (entries : List Entry)
     → (setup ≡ named) × (calls ≡ named_calls) → IsSetup setup → AreCallsOf setup calls → HaveEnded calls others
     → held_now ≡ held → others_now ≡ others → AreTheirOwn setup held_now others_now
-    → none ≡ [] → front ≡ none ++ flat_map steps_of_replica held → all ≡ front ++ flat_map steps_of_client others
-    → ReplicasStand named held → ClientsStand named named_calls others
+    → all ≡ all_steps held others → ReplicasStand named held → ClientsStand named named_calls others
     → ((me : Party) → RisesFrom 0 (own_steps me all) → own_steps me merged ≡ own_steps me all)
     → merged_now ≡ merged → AreTold [] merged_now entries → late_letter setup [] entries ≡ None
     → IsLive setup calls (record { setup = setup; entries = entries })
-gathered_run setup named calls named_calls held held_now others others_now none front all merged merged_now entries
-    names limits callable ended held_is others_are own none_is front_is all_is replicas_stand clients_stand kept now
-    told in_time =
+gathered_run setup named calls named_calls held held_now others others_now all merged merged_now entries names limits
+    callable ended held_is others_are own all_are replicas_stand clients_stand kept now told in_time =
     let own_here : AreTheirOwn setup held others =
     subst (λ (it : List (ReplicaState × List KeptStep)). AreTheirOwn setup it others) held_is
     (subst (AreTheirOwn setup held_now) others_are own) in
-    let all_are : all ≡ all_steps held others =
-    all_is ∙ ap (λ (it : List (Party × KeptStep)). it ++ flat_map steps_of_client others)
-    (front_is ∙ ap (λ (it : List (Party × KeptStep)). it ++ flat_map steps_of_replica held) none_is) in
     gathered_live setup calls held others merged entries limits callable own_here
     (subst (λ (it : Setup). ReplicasStand it held) (sym names.0) replicas_stand)
     (subst (λ (it : Setup). ClientsStand it calls others) (sym names.0)

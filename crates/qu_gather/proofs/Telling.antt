@@ -1,7 +1,6 @@
 -- What is told of kept and of filed steps, put into the order of their tickets.
 use Rattle.std.proofs.Common.{◌≡◌, ℕ, List, [], ◌++◌, map, Option, Some, sym, ap, subst, ◌∙◌, inl, inr}
 use Rattle.std.specs.Prelude.{slice_get, Result, Err}
-use Rattle.std.specs.List.{flat_map}
 use Rattle.qu_base.specs.declared.party.Party.{Party}
 use Rattle.qu_rows.specs.State.{ReplicaState}
 use Rattle.qu_client.specs.declared.state.ClientState.{ClientState}
@@ -14,7 +13,7 @@ use Rattle.qu_replay.specs.Merged.{AreByTicket, merged_entries}
 use Rattle.qu_gather.specs.declared.torn.LiveFail.{LiveFail}
 use Rattle.qu_gather.specs.declared.torn.LiveFail.TheVariants as fail
 use Rattle.qu_gather.specs.declared.torn.Torn.TheVariants as torn
-use Rattle.qu_gather.specs.Gathered.{steps_of_replica, steps_of_client, all_steps}
+use Rattle.qu_gather.specs.Gathered.{all_steps}
 use Rattle.qu_journal.specs.Journal.{as_kept, IsUnfiled, AreUnlike, IsPairOf}
 use Rattle.qu_gather.specs.Torn.{TakesUnsent, IsUntold, AreWhole, TellsSteps, IsEarly, TellsEarly}
 use Rattle.qu_gather.specs.Ticks.{late_letter}
@@ -33,21 +32,15 @@ pub record InOrder (steps : List Step) (journal : List Filed) (merged filed : Li
 
 -- the steps behind the locks, as they were put one behind the other, and those of the journal
 pub in_order : (held : List (ReplicaState × List KeptStep)) (others : List (ClientState × List KeptStep))
-    (journal : List Filed) (none front all made merged filed : List Step) → none ≡ []
-    → front ≡ none ++ flat_map steps_of_replica held → all ≡ front ++ flat_map steps_of_client others
-    → made ≡ map as_kept journal → AreByTicket 0 merged → AreByTicket 0 filed → SameTickets merged all
-    → SameTickets filed made → InOrder (all_steps held others) journal merged filed
-in_order held others journal none front all made merged filed none_is front_is all_is made_is sorted filed_sorted ties
-    filed_ties =
-    let all_are : all ≡ all_steps held others =
-    all_is ∙ ap (λ (it : List Step). it ++ flat_map steps_of_client others)
-    (front_is ∙ ap (λ (it : List Step). it ++ flat_map steps_of_replica held) none_is) in
-    record {
-      sorted = sorted;
-      filed_sorted = filed_sorted;
-      ties = subst (SameTickets merged) all_are ties;
-      filed_ties = subst (SameTickets filed) made_is filed_ties;
-    }
+    (journal : List Filed) (all merged filed : List Step) → all ≡ all_steps held others
+    → AreByTicket 0 merged × AreByTicket 0 filed → SameTickets merged all → SameTickets filed (map as_kept journal)
+    → InOrder (all_steps held others) journal merged filed
+in_order held others journal all merged filed all_is sorted ties filed_ties = record {
+  sorted = sorted.0;
+  filed_sorted = sorted.1;
+  ties = subst (SameTickets merged) all_is ties;
+  filed_ties = filed_ties;
+}
 
 pub whole : (steps merged filed : List Step) (journal : List Filed) → InOrder steps journal merged filed
     → merged ≡ filed → WereSentBefore [] merged → AreWhole steps journal

@@ -1,12 +1,15 @@
-ghost use Rattle.std.specs.Prelude.{◌≡◌, [], length, None, IfOk, IfErr, OnOk};
+ghost use Rattle.std.specs.Prelude.{◌≡◌, ℕ, [], length, map, None, IfOk, IfErr, OnOk};
 ghost use Rattle.qu_base.specs.Bounds.{replicas};
 ghost use Rattle.qu_world.specs.Run.{IsSetup};
 ghost use Rattle.qu_replay.specs.Told.{AreTold};
-ghost use Rattle.qu_replay.specs.Merged.{merged_entries};
+ghost use Rattle.qu_base.specs.declared.party.Party.{Party as AParty};
+ghost use Rattle.qu_journal.specs.Journal.{as_kept};
+ghost use Rattle.qu_replay.specs.Replays.{RisesFrom, own_steps};
+ghost use Rattle.qu_replay.specs.Merged.{AreByTicket, merged_entries, steps_of_ticket};
 ghost use Rattle.qu_replay.specs.Entries.{WereSentBefore};
 ghost use Rattle.qu_gather.specs.Correct.{correct_replicas, correct_clients};
 ghost use Rattle.qu_gather.specs.Live.{IsLive, AreCallsOf};
-ghost use Rattle.qu_gather.specs.Gathered.{all_steps, HaveEnded, AreTheirOwn};
+ghost use Rattle.qu_gather.specs.Gathered.{all_steps, HaveEnded, AreTheirOwn, ReplicasStand, ClientsStand};
 ghost use Rattle.qu_gather.specs.Torn.{moved_actor, TellsMoved, IsOfLocks, IsUntold, IsEarly, TellsSteps, TellsEarly};
 ghost use Rattle.qu_gather.specs.Ticks.{late_letter};
 
@@ -14,7 +17,7 @@ use crate::correct::{correct_clients, correct_replicas};
 use crate::held::{moved_client, moved_replica, put_clients, put_replicas};
 use crate::ticks::late_letter;
 use crate::{LiveFail, Torn};
-use qu_base::{ClientId, List, Party};
+use qu_base::{ClientId, List, NoMemory, Party};
 use qu_client::Client;
 use qu_journal::{first_unlike, steps_filed, unlike_pair, unsent_pair};
 use qu_lock::{Kept, RunName};
@@ -49,11 +52,8 @@ pub fn gather<N: RunName>(
     ensures early { TellsEarly setup (all_steps held.items others.items) result }
 {
     are_their_own(alloc, &setup, &held, &others)?;
-    let mut steps = List::new(alloc);
-    put_replicas(&mut steps, held)?;
-    put_clients(&mut steps, others)?;
-    let kept = by_ticket(steps)?;
-    let filed = by_ticket(steps_filed(alloc, journal)?)?;
+    let steps = steps_behind(alloc, held, others)?;
+    let (kept, filed) = in_order(alloc, steps, journal)?;
     let entries = tell(alloc, kept, filed)?;
     tick_in_time(alloc, &setup, entries.as_slice())?;
     Ok(Trace { setup, entries })
@@ -79,6 +79,40 @@ fn are_their_own<N: RunName>(
         Some((lock, held)) => Err(LiveFail::Torn(Torn::Moved { lock, held })),
         None => Ok(()),
     }
+}
+
+/// The steps that stand behind all locks, actor by actor, each with the name of its actor.
+fn steps_behind<N: RunName>(
+    alloc: Global,
+    held: Vec<Kept<Replica, N>>,
+    others: Vec<Kept<Client, N>>,
+) -> Result<List<(Party, KeptStep)>, NoMemory>
+    ensures steps { IfOk result (λ steps. steps ≡ all_steps held.items others.items) }
+    ensures replicas { OnOk result (ReplicasStand N.setup held.items) }
+    ensures clients { OnOk result (ClientsStand N.setup N.calls others.items) }
+{
+    let mut steps = List::new(alloc);
+    put_replicas(&mut steps, held)?;
+    put_clients(&mut steps, others)?;
+    Ok(steps)
+}
+
+/// The kept steps and those of the journal, both in the order of their tickets.
+fn in_order(
+    alloc: Global,
+    kept: List<(Party, KeptStep)>,
+    journal: List<Filed>,
+) -> Result<(List<(Party, KeptStep)>, List<(Party, KeptStep)>), NoMemory>
+    ensures sorted { IfOk result (λ both. AreByTicket 0 both.0 × AreByTicket 0 both.1) }
+    ensures ties { IfOk result (λ both. (ticket : ℕ)
+        → steps_of_ticket ticket both.0 ≡ steps_of_ticket ticket kept) }
+    ensures filed_ties { IfOk result (λ both. (ticket : ℕ)
+        → steps_of_ticket ticket both.1 ≡ steps_of_ticket ticket (map as_kept journal)) }
+    ensures own { IfOk result (λ both. (me : AParty) → RisesFrom 0 (own_steps me kept)
+        → own_steps me both.0 ≡ own_steps me kept) }
+{
+    let filed = steps_filed(alloc, journal)?;
+    Ok((by_ticket(kept)?, by_ticket(filed)?))
 }
 
 /// The entries that tell kept steps, where these are the filed ones, both in the order of tickets, and each takes what

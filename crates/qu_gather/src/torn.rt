@@ -3,7 +3,7 @@ use qu_post::Filed;
 use qu_replay::KeptStep;
 
 /// What does not fit of what the threads of a run left behind.
-#[derive(Debug, Drop)]
+#[derive(Debug)]
 pub enum Torn {
     /// Behind the lock of one actor stands another one.
     Moved {
@@ -22,6 +22,20 @@ pub enum Torn {
         client: ClientId,
         letter: u64,
     },
+}
+
+/// By hand, so that a value is let go in one step wherever that is.
+impl Drop for Torn {
+    fn drop(self) {
+        match self {
+            Torn::Moved { lock: _, held: _ }
+            | Torn::Steps { kept: _, filed: _ }
+            | Torn::Early {
+                client: _,
+                letter: _,
+            } => {}
+        }
+    }
 }
 
 /// Why a run on threads gives no trace.

@@ -5,10 +5,20 @@ use qu_base::{List, NoMemory};
 use std::alloc::Global;
 
 /// A history, and its HMACs: one for each replica, by which that replica knows that it stood so.
-#[derive(Debug, Drop)]
+#[derive(Debug)]
 pub struct Sealed {
     pub history: History,
     pub macs: List<[u8; 32]>,
+}
+
+/// By hand, so that a value is let go in one step wherever that is.
+impl Drop for Sealed {
+    fn drop(self) {
+        let Sealed {
+            history: _,
+            macs: _,
+        } = self;
+    }
 }
 
 impl Sealed {

@@ -14,22 +14,17 @@ pub struct SetOf {
     pub entries: List<Sealed>,
 }
 
-impl SetOf {
-    /// An equal set.
-    pub fn copy(&self, alloc: Global) -> Result<SetOf, NoMemory>
-        ensures { IfOk result (λ set. set ≡ self.now) }
-    {
-        Ok(SetOf {
-            object: self.object,
-            entries: Sealed::copy_all(alloc, self.entries.as_slice())?,
-        })
-    }
-}
-
 /// One to eight objects in rising order, each with the histories that some replicas showed of it. Copies share them.
-#[derive(Debug, Drop)]
+#[derive(Debug)]
 pub struct Sets {
     objects: Shared<List<SetOf>>,
+}
+
+/// By hand, so that a value is let go in one step wherever that is.
+impl Drop for Sets {
+    fn drop(self) {
+        let Sets { objects: _ } = self;
+    }
 }
 
 impl Model for Sets {

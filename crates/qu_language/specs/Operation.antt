@@ -70,12 +70,17 @@ abbrev pub object_behind : Parts → ℕ → List ℕ → Result ObjectId BadKin
 object_behind parts objects word =
     then_good (object_rule objects word) (λ object. if are_below object parts then Ok object else Err OutOfOrder)
 
--- a verb, one of so many objects, and what the verb needs: the parts with this one, and the words behind it
+-- a verb and one of so many objects, and the words behind them
+abbrev pub called_behind : Parts → ℕ → List (List ℕ) → Result ((Verb × ObjectId) × List (List ℕ)) BadKind
+called_behind parts objects words =
+    then_good (argument (verb_behind parts) words) (λ verb.
+    then_good (argument (object_behind parts objects) verb.1) (λ object. Ok ((verb.0, object.0), object.1)))
+
+-- a verb, an object, and what the verb needs: the parts with this one, and the words behind it
 unfoldable pub part_behind : ℕ → Parts → List (List ℕ) → Result (Parts × List (List ℕ)) BadKind
 part_behind objects parts words =
-    then_good (argument (verb_behind parts) words) (λ verb.
-    then_good (argument (object_behind parts objects) verb.1) (λ object.
-    then_good (part_rule verb.0 object.1) (λ part. Ok (with_part parts object.0 part.0, part.1))))
+    then_good (called_behind parts objects words) (λ called.
+    then_good (part_rule called.0.0 called.1) (λ part. Ok (with_part parts called.0.1 part.0, part.1)))
 
 -- ---- operations
 

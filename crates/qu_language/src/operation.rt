@@ -1,13 +1,15 @@
-ghost use Rattle.std.specs.Prelude.{◌≡◌, ◌<◌, ◌+◌, ◌-◌, ℕ, IfOk, IsTrue};
-ghost use Rattle.qu_base.specs.declared.limits.TheConstants.{OBJECT_IDS};
+ghost use Rattle.std.specs.Prelude.{◌≡◌, ◌<◌, ◌+◌, ◌-◌, ℕ, length, nat_le, IfOk, IsTrue};
+ghost use Rattle.std.specs.Result.{result_map_both};
+ghost use Rattle.qu_base.specs.declared.limits.TheConstants.{CONTENT_LIMIT, NAME_LIMIT, OBJECT_IDS};
 ghost use Rattle.qu_language.specs.Meaning.{IsReadAs};
-ghost use Rattle.qu_language.specs.Operation.{ask_verb_rule, verb_rule, verb_behind, object_behind, part_rule, part_behind, joined_part, more_parts, op_rule};
+ghost use Rattle.qu_language.specs.Operation.{ask_verb_rule, argument, verb_rule, verb_behind, object_behind, called_behind, part_rule, part_behind, joined_part, more_parts, op_rule};
+ghost use Rattle.qu_language.specs.Rules.{number_rule, content_rule, name_rule};
 ghost use Rattle.qu_language.specs.Parts.{is_of_query, are_below, is_sized_part, AreBuilt};
 
 use super::parts::Parts;
 use super::rules::{read_content, read_name, read_number, read_object};
 use super::{BadKind, LineFail, Words};
-use qu_base::ObjectId;
+use qu_base::{List, ObjectId};
 use qu_objects::{Ask, MOST_PARTS, Method, Op};
 use std::alloc::Global;
 
@@ -104,10 +106,25 @@ fn read_part_behind(
     ensures built { (least most : ℕ) → AreBuilt least most parts
         → IfOk result (λ parts. AreBuilt (least + 1) (most + 1) parts) }
 {
-    let verb = read_verb_behind(&parts, words.next_of_part()?)?;
-    let object = read_object_behind(&parts, objects, words.next_of_part()?)?;
+    let (verb, object) = read_called(&parts, objects, words)?;
     let part = read_part(alloc, verb, words)?;
     Ok(parts.with(object, part)?)
+}
+
+/// A verb and an object behind these parts.
+fn read_called(
+    parts: &Parts,
+    objects: usize,
+    words: &mut Words<'_>,
+) -> Result<(Verb, ObjectId), BadKind>
+    ensures value { result_map_both (λ called. (called, words.new)) (λ kind. kind) result
+        ≡ called_behind parts.now objects words.old }
+    ensures known { IfOk result (λ called. called.1.0 < OBJECT_IDS) }
+    ensures above { IfOk result (λ called. IsTrue (are_below called.1 parts.now)) }
+{
+    let verb = read_verb_behind(parts, words.next_of_part()?)?;
+    let object = read_object_behind(parts, objects, words.next_of_part()?)?;
+    Ok((verb, object))
 }
 
 /// A verb behind these parts.
@@ -182,19 +199,41 @@ fn read_part(alloc: Global, verb: Verb, words: &mut Words<'_>) -> Result<Part, L
     ensures sized { IfOk result (λ part. IsTrue (is_sized_part part)) }
 {
     Ok(match verb {
-        Verb::Add => Part::Does(Method::Add(read_number(words.next_of_part()?)?)),
-        Verb::Take => Part::Does(Method::Take(read_number(words.next_of_part()?)?)),
-        Verb::Put => Part::Does(Method::Put(read_content(alloc, words.next_of_part()?)?)),
-        Verb::Append => Part::Does(Method::Append(read_content(alloc, words.next_of_part()?)?)),
+        Verb::Add => Part::Does(Method::Add(number_behind(words)?)),
+        Verb::Take => Part::Does(Method::Take(number_behind(words)?)),
+        Verb::Put => Part::Does(Method::Put(content_behind(alloc, words)?)),
+        Verb::Append => Part::Does(Method::Append(content_behind(alloc, words)?)),
         Verb::Link => {
-            let name = read_name(alloc, words.next_of_part()?)?;
-            let number = read_number(words.next_of_part()?)?;
-            Part::Does(Method::Link(name, number))
+            let name = name_behind(alloc, words)?;
+            Part::Does(Method::Link(name, number_behind(words)?))
         }
-        Verb::Unlink => Part::Does(Method::Unlink(read_name(alloc, words.next_of_part()?)?)),
+        Verb::Unlink => Part::Does(Method::Unlink(name_behind(alloc, words)?)),
         Verb::Read => Part::Asks(Ask::Read),
         Verb::Cat => Part::Asks(Ask::Cat),
-        Verb::Find => Part::Asks(Ask::Find(read_name(alloc, words.next_of_part()?)?)),
+        Verb::Find => Part::Asks(Ask::Find(name_behind(alloc, words)?)),
         Verb::All => Part::Asks(Ask::All),
     })
+}
+
+/// The number that is the next word of a part.
+fn number_behind(words: &mut Words<'_>) -> Result<u64, BadKind>
+    ensures { result_map_both (λ number. (number, words.new)) (λ kind. kind) result ≡ argument number_rule words.old }
+{
+    read_number(words.next_of_part()?)
+}
+
+/// The bytes that are the next word of a part.
+fn content_behind(alloc: Global, words: &mut Words<'_>) -> Result<List<u8>, LineFail>
+    ensures value { IsReadAs (λ content. (content, words.new)) result (argument content_rule words.old) }
+    ensures sized { IfOk result (λ content. IsTrue (nat_le (length content) CONTENT_LIMIT)) }
+{
+    read_content(alloc, words.next_of_part()?)
+}
+
+/// The name that is the next word of a part.
+fn name_behind(alloc: Global, words: &mut Words<'_>) -> Result<List<u8>, LineFail>
+    ensures value { IsReadAs (λ name. (name, words.new)) result (argument name_rule words.old) }
+    ensures sized { IfOk result (λ name. IsTrue (nat_le (length name) NAME_LIMIT)) }
+{
+    read_name(alloc, words.next_of_part()?)
 }

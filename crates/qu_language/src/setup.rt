@@ -1,8 +1,9 @@
-ghost use Rattle.std.specs.Prelude.{◌≡◌, ◌≤◌, ◌+◌, ◌<◌, ◌∷◌, [], ◌++◌, count_by, IfOk};
+ghost use Rattle.std.specs.Prelude.{◌≡◌, ◌≤◌, ◌+◌, ◌<◌, ◌∷◌, [], ◌++◌, count_by, if◌then◌else◌, Err, IfOk};
 ghost use Rattle.std.specs.List.{list_all};
 ghost use Rattle.qu_base.specs.declared.limits.TheConstants.{OBJECT_IDS};
 ghost use Rattle.qu_trace.specs.Faulty.{is_replica};
-ghost use Rattle.qu_language.specs.Setup.{kind_rule, object_in_turn, object_line, party_number, rises, rises_in_clients, faulty_replica, faulty_client, faulty_line};
+ghost use Rattle.qu_language.specs.Setup.{kind_rule, object_in_turn, object_line, party_number, rises, rises_in_clients, faulty_replica, faulty_client, faulty_replica_rule, faulty_client_rule, faulty_line};
+ghost use Rattle.qu_language.specs.Words.{only_of};
 
 use super::parties::{client_by_number, replica_by_number};
 use super::rules::read_number;
@@ -63,19 +64,37 @@ pub fn read_faulty_line(setup: &Setup, words: &mut Words<'_>) -> Result<Party, B
 {
     let kind = words.next()?;
     if kind == b"replica".as_slice() {
-        if !are_replicas(setup.liars.as_slice()) {
-            return Err(BadKind::OutOfOrder);
-        }
-        let who = faulty_replica(setup, read_number(words.next()?)?)?;
-        words.end()?;
-        Ok(who)
+        read_faulty_replica(setup, words)
     } else if kind == b"client".as_slice() {
-        let who = faulty_client(setup, read_number(words.next()?)?)?;
-        words.end()?;
-        Ok(who)
+        read_faulty_client(setup, words)
     } else {
         Err(BadKind::UnknownWord)
     }
+}
+
+/// `R`, where replicas alone are listed.
+fn read_faulty_replica(setup: &Setup, words: &mut Words<'_>) -> Result<Party, BadKind>
+    ensures value { result ≡ if list_all is_replica setup.now.liars
+        then only_of (faulty_replica_rule setup.now) words.old else Err BadKind.OutOfOrder }
+    ensures few { IfOk result (λ who. count_by is_replica (setup.now.liars ++ who ∷ []) ≤ setup.now.bounds) }
+{
+    if !are_replicas(setup.liars.as_slice()) {
+        return Err(BadKind::OutOfOrder);
+    }
+    let who = faulty_replica(setup, read_number(words.next()?)?)?;
+    words.end()?;
+    Ok(who)
+}
+
+/// `C`.
+fn read_faulty_client(setup: &Setup, words: &mut Words<'_>) -> Result<Party, BadKind>
+    ensures value { result ≡ only_of (faulty_client_rule setup.now) words.old }
+    ensures few { IfOk result (λ who. count_by is_replica (setup.now.liars ++ who ∷ [])
+        ≡ count_by is_replica setup.now.liars) }
+{
+    let who = faulty_client(setup, read_number(words.next()?)?)?;
+    words.end()?;
+    Ok(who)
 }
 
 /// The next faulty replica, where replicas alone are listed.

@@ -24,7 +24,6 @@ pub struct Sent {
 }
 
 /// What is known of the earlier events where an event is told.
-#[derive(Drop)]
 pub struct SoFar {
     /// The letters, by their numbers.
     pub sent: List<Sent>,
@@ -34,6 +33,18 @@ pub struct SoFar {
     pub starts: Starts,
     /// The parties as they are behind the earlier events.
     pub world: World,
+}
+
+/// By hand, so that a value is let go in one step wherever that is.
+impl Drop for SoFar {
+    fn drop(self) {
+        let SoFar {
+            sent: _,
+            calls: _,
+            starts: _,
+            world: _,
+        } = self;
+    }
 }
 
 impl SoFar {

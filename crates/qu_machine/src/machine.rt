@@ -8,9 +8,16 @@ use std::alloc::Global;
 use std::marker::Model;
 
 /// Plain values, on which operations are run whole and one after another.
-#[derive(Debug, Drop)]
+#[derive(Debug)]
 pub struct Machine {
     values: Vec<Value>,
+}
+
+/// By hand, so that a value is let go in one step wherever that is.
+impl Drop for Machine {
+    fn drop(self) {
+        let Machine { values: _ } = self;
+    }
 }
 
 impl Model for Machine {

@@ -5,7 +5,7 @@ use qu_objects::{Op, Outcome};
 use std::alloc::Global;
 
 /// An operation of a client, as a run shows it.
-#[derive(Debug, Drop)]
+#[derive(Debug)]
 pub struct OpRecord {
     pub client: ClientId,
     /// Its number among the operations of its client, from 1 on.
@@ -15,6 +15,19 @@ pub struct OpRecord {
     pub invoked: u64,
     /// The event at which it ended, and how; None where it is open.
     pub reply: Option<(u64, Outcome)>,
+}
+
+/// By hand, so that a value is let go in one step wherever that is.
+impl Drop for OpRecord {
+    fn drop(self) {
+        let OpRecord {
+            client: _,
+            number: _,
+            op: _,
+            invoked: _,
+            reply: _,
+        } = self;
+    }
 }
 
 impl OpRecord {

@@ -7,7 +7,7 @@ use std::alloc::Global;
 use std::marker::Model;
 
 /// An update of one object.
-#[derive(Clone, Debug, Drop, PartialEq, Eq)]
+#[derive(Clone, Debug, PartialEq, Eq)]
 pub enum Method {
     /// Adds to a counter.
     Add(u64),
@@ -21,6 +21,20 @@ pub enum Method {
     Link(List<u8>, u64),
     /// Takes a name, of at most `NAME_LIMIT` bytes, out of a directory.
     Unlink(List<u8>),
+}
+
+/// By hand, so that a value is let go in one step wherever that is.
+impl Drop for Method {
+    fn drop(self) {
+        match self {
+            Method::Add(_)
+            | Method::Take(_)
+            | Method::Put(_)
+            | Method::Append(_)
+            | Method::Link(_, _)
+            | Method::Unlink(_) => {}
+        }
+    }
 }
 
 impl Method {
@@ -43,9 +57,16 @@ impl Method {
 pub struct BadParts;
 
 /// An update of objects: for each of them, in rising order, what is done to it.
-#[derive(Debug, Drop)]
+#[derive(Debug)]
 pub struct Act {
     parts: List<(ObjectId, Method)>,
+}
+
+/// By hand, so that a value is let go in one step wherever that is.
+impl Drop for Act {
+    fn drop(self) {
+        let Act { parts: _ } = self;
+    }
 }
 
 impl Model for Act {

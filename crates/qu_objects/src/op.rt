@@ -5,10 +5,19 @@ use qu_base::NoMemory;
 use std::alloc::Global;
 
 /// An operation of a client.
-#[derive(Debug, Drop)]
+#[derive(Debug)]
 pub enum Op {
     Act(Act),
     Query(Query),
+}
+
+/// By hand, so that a value is let go in one step wherever that is.
+impl Drop for Op {
+    fn drop(self) {
+        match self {
+            Op::Act(_) | Op::Query(_) => {}
+        }
+    }
 }
 
 impl Op {
@@ -24,11 +33,20 @@ impl Op {
 }
 
 /// How an operation ends.
-#[derive(Debug, Drop)]
+#[derive(Debug)]
 pub enum Outcome {
     Done(Answer),
     /// All its rounds are spent.
     GaveUp,
+}
+
+/// By hand, so that a value is let go in one step wherever that is.
+impl Drop for Outcome {
+    fn drop(self) {
+        match self {
+            Outcome::Done(_) | Outcome::GaveUp => {}
+        }
+    }
 }
 
 impl Outcome {

@@ -7,12 +7,24 @@ use std::alloc::Global;
 
 /// What a version keeps of a client: its last update, by its number and the digest of its act, and what
 /// that answered.
-#[derive(Debug, Drop)]
+#[derive(Debug)]
 pub struct KeptRow {
     pub client: ClientId,
     pub number: u64,
     pub act: Digest,
     pub answer: Answer,
+}
+
+/// By hand, so that a value is let go in one step wherever that is.
+impl Drop for KeptRow {
+    fn drop(self) {
+        let KeptRow {
+            client: _,
+            number: _,
+            act: _,
+            answer: _,
+        } = self;
+    }
 }
 
 impl KeptRow {
@@ -50,11 +62,22 @@ pub struct Link {
 
 /// An object as it is under one stamp: its value, what is kept of clients, by rising client, and its links,
 /// by rising object.
-#[derive(Debug, Drop)]
+#[derive(Debug)]
 pub struct ObjState {
     pub value: Value,
     pub kept: List<KeptRow>,
     pub links: List<Link>,
+}
+
+/// By hand, so that a value is let go in one step wherever that is.
+impl Drop for ObjState {
+    fn drop(self) {
+        let ObjState {
+            value: _,
+            kept: _,
+            links: _,
+        } = self;
+    }
 }
 
 impl ObjState {

@@ -96,7 +96,7 @@ fn counter_at(alloc: Global, machine: &Machine, object: u16) -> Result<u64, NoMe
     let Ok(read) = Query::new(parts) else {
         unreachable!()
     };
-    match machine.ask(alloc, &read)? {
+    match &machine.ask(alloc, &read)? {
         Answer::Ok(items) => Ok(number_in(items.as_slice())),
         Answer::Refused { .. } => Ok(0),
     }

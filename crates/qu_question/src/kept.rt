@@ -15,12 +15,24 @@ pub enum Mark {
 }
 
 /// The newest sealed history of an object that a replica sent, and which request it answered.
-#[derive(Debug, Drop)]
+#[derive(Debug)]
 pub struct Kept {
     pub sealed: Shared<Sealed>,
     pub number: u64,
     pub round: u8,
     pub mark: Mark,
+}
+
+/// By hand, so that a value is let go in one step wherever that is.
+impl Drop for Kept {
+    fn drop(self) {
+        let Kept {
+            sealed: _,
+            number: _,
+            round: _,
+            mark: _,
+        } = self;
+    }
 }
 
 impl Mark {

@@ -37,7 +37,7 @@ use std::marker::Model;
 
 /// One replica. It keeps a history of each object, the versions that it accepted or fetched, and the requests that wait
 /// for those that it fetches.
-#[derive(Debug, Drop)]
+#[derive(Debug)]
 pub struct Replica {
     alloc: Global,
     me: ReplicaId,
@@ -48,6 +48,22 @@ pub struct Replica {
     /// The waiting request of each client, in slots by the numbers of the clients.
     waiting: Vec<Option<Waiting>>,
     fetching: List<Running>,
+}
+
+/// By hand, so that a value is let go in one step wherever that is.
+impl Drop for Replica {
+    fn drop(self) {
+        let Replica {
+            alloc: _,
+            me: _,
+            keys: _,
+            kinds: _,
+            histories: _,
+            versions: _,
+            waiting: _,
+            fetching: _,
+        } = self;
+    }
 }
 
 impl Model for Replica {

@@ -30,11 +30,22 @@ impl Fetch {
 }
 
 /// A version that is being fetched, and the answers of replicas, of which each is taken once.
-#[derive(Debug, Drop)]
+#[derive(Debug)]
 pub struct Fetching {
     alloc: Global,
     need: u8,
     answers: Tally<List<u8>>,
+}
+
+/// By hand, so that a value is let go in one step wherever that is.
+impl Drop for Fetching {
+    fn drop(self) {
+        let Fetching {
+            alloc: _,
+            need: _,
+            answers: _,
+        } = self;
+    }
 }
 
 impl Model for Fetching {

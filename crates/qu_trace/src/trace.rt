@@ -54,13 +54,24 @@ fn is_same(one: Party, other: Party) -> bool
 }
 
 /// An event of a run, and what it made.
-#[derive(Debug, Drop)]
+#[derive(Debug)]
 pub struct Entry {
     pub event: Event,
     /// The letters that were sent.
     pub letters: List<Letter>,
     /// The operation that ended: its client, its number, and how.
     pub ended: Option<(ClientId, u64, Outcome)>,
+}
+
+/// By hand, so that a value is let go in one step wherever that is.
+impl Drop for Entry {
+    fn drop(self) {
+        let Entry {
+            event: _,
+            letters: _,
+            ended: _,
+        } = self;
+    }
 }
 
 impl Entry {
@@ -82,10 +93,20 @@ impl Entry {
 }
 
 /// A run, from its setup on. Events are numbered from 1, and so are letters.
-#[derive(Debug, Drop)]
+#[derive(Debug)]
 pub struct Trace {
     pub setup: Setup,
     pub entries: List<Entry>,
+}
+
+/// By hand, so that a value is let go in one step wherever that is.
+impl Drop for Trace {
+    fn drop(self) {
+        let Trace {
+            setup: _,
+            entries: _,
+        } = self;
+    }
 }
 
 impl Trace {

@@ -15,10 +15,20 @@ use std::collections::LinkedList;
 use std::marker::Model;
 
 /// The versions of objects, each under its stamp. It only grows: a version that is held is never replaced.
-#[derive(Debug, Drop)]
+#[derive(Debug)]
 pub struct VersionStore {
     alloc: Global,
     versions: LinkedList<Stored>,
+}
+
+/// By hand, so that a value is let go in one step wherever that is.
+impl Drop for VersionStore {
+    fn drop(self) {
+        let VersionStore {
+            alloc: _,
+            versions: _,
+        } = self;
+    }
 }
 
 impl Model for VersionStore {

@@ -6,11 +6,22 @@ use qu_stamp::Stamp;
 use std::alloc::Global;
 
 /// A version of an object, under the stamp of its candidate.
-#[derive(Debug, Drop)]
+#[derive(Debug)]
 pub struct Stored {
     pub object: ObjectId,
     pub stamp: Stamp,
     pub state: ObjState,
+}
+
+/// By hand, so that a value is let go in one step wherever that is.
+impl Drop for Stored {
+    fn drop(self) {
+        let Stored {
+            object: _,
+            stamp: _,
+            state: _,
+        } = self;
+    }
 }
 
 impl Stored {

@@ -6,11 +6,22 @@ use qu_sync::Fetching;
 use std::marker::Model;
 
 /// A version that other replicas were asked for, and what they answered.
-#[derive(Debug, Drop)]
+#[derive(Debug)]
 pub struct Running {
     pub object: ObjectId,
     pub stamp: Stamp,
     pub answers: Fetching,
+}
+
+/// By hand, so that a value is let go in one step wherever that is.
+impl Drop for Running {
+    fn drop(self) {
+        let Running {
+            object: _,
+            stamp: _,
+            answers: _,
+        } = self;
+    }
 }
 
 impl Model for Running {

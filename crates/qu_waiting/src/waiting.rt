@@ -11,13 +11,24 @@ use std::alloc::Global;
 use std::marker::Model;
 
 /// A request that waits for versions, as it came.
-#[derive(Debug, Drop)]
+#[derive(Debug)]
 pub struct Waiting {
     pub reading: Reading,
     /// The HMAC that it had.
     mac: [u8; 32],
     /// The versions that were missing when it was decided upon.
     pub missing: List<(ObjectId, Stamp)>,
+}
+
+/// By hand, so that a value is let go in one step wherever that is.
+impl Drop for Waiting {
+    fn drop(self) {
+        let Waiting {
+            reading: _,
+            mac: _,
+            missing: _,
+        } = self;
+    }
 }
 
 impl Model for Waiting {
@@ -68,9 +79,13 @@ impl Waiting {
     pub fn with_missing(self, missing: List<(ObjectId, Stamp)>) -> Waiting
         ensures { result ≡ record self { missing = missing } }
     {
-        let mac = self.mac;
+        let Waiting {
+            reading,
+            mac,
+            missing: _,
+        } = self;
         Waiting {
-            reading: self.reading,
+            reading,
             mac,
             missing,
         }

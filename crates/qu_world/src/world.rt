@@ -28,7 +28,7 @@ use std::alloc::Global;
 use std::marker::Model;
 
 /// A run under way: the replicas and clients of a setup, and the record of the events so far.
-#[derive(Debug, Drop)]
+#[derive(Debug)]
 pub struct World {
     alloc: Global,
     trace: Trace,
@@ -40,6 +40,21 @@ pub struct World {
     starts: Starts,
     /// How many bytes the letters that were sent have together, at most 2^128 - 1.
     sent: u128,
+}
+
+/// By hand, so that a value is let go in one step wherever that is.
+impl Drop for World {
+    fn drop(self) {
+        let World {
+            alloc: _,
+            trace: _,
+            replicas: _,
+            last: _,
+            clients: _,
+            starts: _,
+            sent: _,
+        } = self;
+    }
 }
 
 impl Model for World {
@@ -189,7 +204,16 @@ impl World {
         ensures value { result ≡ trace_of self }
         ensures run { IsRun result }
     {
-        self.trace
+        let World {
+            alloc: _,
+            trace,
+            replicas: _,
+            last: _,
+            clients: _,
+            starts: _,
+            sent: _,
+        } = self;
+        trace
     }
 
     /// The replicas as they are now, from that with number 0 on. A faulty one keeps nothing.

@@ -97,8 +97,7 @@ fn take(
     ensures err { OnErr result ((client.new ≡ client.old) × (steps.new.items ≡ steps.old.items)) }
 {
     steps.reserve(1)?;
-    let planned = plan(alloc, me, &*client, &input)?;
-    let letters = Letter::copy_all(alloc, planned.moved.letters.as_slice())?;
+    let (planned, letters) = plan_with_letters(alloc, me, &*client, &input)?;
     let number = client.working_on();
     let Moved {
         letters: sent,
@@ -111,6 +110,24 @@ fn take(
         ended: ended_as(me, number, ended),
     });
     Ok(sent)
+}
+
+/// What the client with this name will make of an input, and a copy of the letters that it will send.
+fn plan_with_letters(
+    alloc: Global,
+    me: ClientId,
+    client: &Client,
+    input: &Input,
+) -> Result<(Planned, List<Letter>), NoMemory>
+    requires idle { IsTakenByClient client.now input.now }
+    requires numbers { IfSome client.now.last_request (λ last. last.0 < 2 ^ 64 - 1) }
+    ensures made { IfOk result (λ plan. client_made me client.now (planned_step client.now plan.0)
+        ≡ moved_client me client.now input.now) }
+    ensures copied { IfOk result (λ plan. plan.1 ≡ plan.0.moved.letters) }
+{
+    let planned = plan(alloc, me, client, input)?;
+    let letters = Letter::copy_all(alloc, planned.moved.letters.as_slice())?;
+    Ok((planned, letters))
 }
 
 /// What the client with this name will make of an input.

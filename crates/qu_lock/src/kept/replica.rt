@@ -1,6 +1,8 @@
-ghost use Rattle.std.specs.Prelude.{◌≡◌, ◌≤◌, [], ◌∷◌, ◌++◌, Some, IfOk, OnOk, OnErr};
+ghost use Rattle.std.specs.Prelude.{◌≡◌, ◌≤◌, [], ◌∷◌, ◌++◌, None, Some, IfOk, OnOk, OnErr};
 ghost use Rattle.qu_base.specs.declared.party.Party.TheVariants as party;
 ghost use Rattle.qu_rows.specs.State.{ReplicaState};
+ghost use Rattle.qu_replica.specs.Growth.{MayGain};
+ghost use Rattle.qu_replica.specs.State.{with_gain};
 ghost use Rattle.qu_replica.specs.Step.{replica_step};
 ghost use Rattle.qu_replay.specs.Steps.{Replicates, replica_made, moved_replica, IsTakenByReplica};
 ghost use Rattle.qu_replay.specs.Replays.{opening_actor, first_free_ticket, IsAfterLetter};
@@ -11,7 +13,7 @@ use crate::RunName;
 use qu_base::{List, NoMemory, Party, ReplicaId};
 use qu_frames::{Input, Letter};
 use qu_replay::KeptStep;
-use qu_replica::Replica;
+use qu_replica::{Planned, Replica};
 use std::alloc::Global;
 
 impl<N: RunName> Kept<Replica, N> {
@@ -55,8 +57,7 @@ fn take(
     ensures err { OnErr result ((replica.new ≡ replica.old) × (steps.new.items ≡ steps.old.items)) }
 {
     steps.reserve(1)?;
-    let planned = replica.plan(text_of(&input))?;
-    let letters = Letter::copy_all(alloc, planned.letters.as_slice())?;
+    let (planned, letters) = plan(alloc, &*replica, &input)?;
     let sent = replica.carry_out(planned);
     steps.push_reserved(KeptStep {
         ticket,
@@ -65,6 +66,25 @@ fn take(
         ended: None,
     });
     Ok(sent)
+}
+
+/// What a replica will make of a frame, and a copy of the letters that it will send.
+fn plan(
+    alloc: Global,
+    replica: &Replica,
+    input: &Input,
+) -> Result<(Planned, List<Letter>), NoMemory>
+    requires { IsTakenByReplica input.now }
+    ensures actor { IfOk result (λ plan.
+        Replicates (with_gain replica.now plan.0.gain) ≡ (moved_replica replica.now input.now).actor) }
+    ensures letters { IfOk result (λ plan. plan.0.letters ≡ (moved_replica replica.now input.now).letters) }
+    ensures unended { IfOk result (λ _. (moved_replica replica.now input.now).ended ≡ None) }
+    ensures copied { IfOk result (λ plan. plan.1 ≡ plan.0.letters) }
+    ensures may { IfOk result (λ plan. MayGain replica.now plan.0.gain) }
+{
+    let planned = replica.plan(text_of(input))?;
+    let letters = Letter::copy_all(alloc, planned.letters.as_slice())?;
+    Ok((planned, letters))
 }
 
 /// The bytes of a frame.

@@ -1,51 +1,72 @@
--- The answer to what was taken is the one to what the source held.
-use Rattle.qu_cli.proofs.EndFacts.{report_refused, report_complete, report_done, report_short, refusal_bad, refusal_refused, refusal_complete}
+-- What a command has to write is told, and so is how its call ends.
+use Rattle.std.proofs.Common.{inl, inr}
+use Rattle.qu_cli.proofs.ToldFacts.{told_ends, few_statuses, none_torn, whole_report, fault_told, calm_told, nothing_told}
 use Rattle.qu_cli.proofs.answering.answer.Goals as goal
 
-pub returns-in-Ok-clause-refused : goal.returns-in-Ok-clause-refused
-returns-in-Ok-clause-refused g c =
-    report_refused _ _ _ _ _ _ c.in-Some.command c.in-Ok-Report.trace c.in-Ok-Report.text
-    c.in-Some.is (rw c.in-Ok-Report.field-0-is at c.in-Ok-Report.ensures.outputs)
+pub returns-clause-status : goal.returns-clause-status
+returns-clause-status g c =
+    let ends = (told_ends _ _ _ _ _ c.tell.result c.in-Some.command c.output_for.result c.in-Some.is c.output_for.ensures.outputs
+    (none_torn _ _ _ c.output_for.result c.output_for.ensures.whole) c.output_for.ensures.fault c.tell.ensures.told) in
+    few_statuses c.tell.result ends.status ends.torn (whole_report c.output_for.result _ _ c.tell.result c.output_for.ensures.whole c.tell.ensures.told)
 
-pub returns-in-Ok-clause-complete : goal.returns-in-Ok-clause-complete
-returns-in-Ok-clause-complete g c =
-    report_complete _ _ _ _ _ _ _ c.in-Some.command c.in-Ok-Report.trace c.in-Ok-Report.text
-    c.in-Some.is (rw c.in-Ok-Report.field-0-is at c.in-Ok-Report.ensures.outputs)
-    c.with_trace.ensures.trace c.with_trace.ensures.status (rw c.as_slice.ensures at c.in-Ok.ensures.whole)
+pub returns-clause-bad_words : goal.returns-clause-bad_words
+returns-clause-bad_words g c =
+    let statuses = (told_ends _ _ _ _ _ c.tell.result c.in-Some.command c.output_for.result c.in-Some.is c.output_for.ensures.outputs
+    (none_torn _ _ _ c.output_for.result c.output_for.ensures.whole) c.output_for.ensures.fault c.tell.ensures.told).status in
+    (λ is. absurd (statuses.1.1 is), λ none. absurd (let some = c.in-Some.is in cc))
 
-pub returns-in-Ok-clause-done : goal.returns-in-Ok-clause-done
-returns-in-Ok-clause-done g c = λ is.
-    report_done _ _ _ _ _ _ c.in-Some.command c.in-Ok-Report.trace c.in-Ok-Report.text
-    c.in-Some.is (rw c.in-Ok-Report.field-0-is at c.in-Ok-Report.ensures.outputs)
-    c.with_trace.ensures.trace (rw c.as_slice.ensures at c.in-Ok.ensures.whole) c.in-Ok.ensures.calm
+pub returns-clause-usage : goal.returns-clause-usage
+returns-clause-usage g c =
+    λ is. absurd ((told_ends _ _ _ _ _ c.tell.result c.in-Some.command c.output_for.result c.in-Some.is c.output_for.ensures.outputs
+    (none_torn _ _ _ c.output_for.result c.output_for.ensures.whole) c.output_for.ensures.fault c.tell.ensures.told).status.1.1 is)
 
-pub returns-in-Ok-Report-clause-write_fault : goal.returns-in-Ok-Report-clause-write_fault
-returns-in-Ok-Report-clause-write_fault g c = λ is.
-    report_short _ _ _ _ _ _ c.in-Some.command c.in-Ok-Report.trace c.in-Ok-Report.text
-    c.in-Some.is (rw c.in-Ok-Report.field-0-is at c.in-Ok-Report.ensures.outputs)
-    c.with_trace-in-Err.ensures.trace (rw c.as_slice.ensures at c.in-Err.ensures.short)
+pub returns-clause-bad_script : goal.returns-clause-bad_script
+returns-clause-bad_script g c =
+    (told_ends _ _ _ _ _ c.tell.result c.in-Some.command c.output_for.result c.in-Some.is c.output_for.ensures.outputs
+    (none_torn _ _ _ c.output_for.result c.output_for.ensures.whole) c.output_for.ensures.fault c.tell.ensures.told).bad_script
 
-pub returns-in-Ok-Report-clause-refused : goal.returns-in-Ok-Report-clause-refused
-returns-in-Ok-Report-clause-refused g c =
-    report_refused _ _ _ _ _ _ c.in-Some.command c.in-Ok-Report.trace c.in-Ok-Report.text
-    c.in-Some.is (rw c.in-Ok-Report.field-0-is at c.in-Ok-Report.ensures.outputs)
+pub returns-clause-read_fault : goal.returns-clause-read_fault
+returns-clause-read_fault g c =
+    λ is. (c.output_for.ensures.fault (fault_told c.output_for.result _ _ c.tell.result c.tell.ensures.told is), nothing_told c.output_for.result _ _ c.tell.result c.tell.ensures.told c.tell.ensures.untold (inl is))
 
-pub returns-in-Ok-Refusal-clause-refused : goal.returns-in-Ok-Refusal-clause-refused
-returns-in-Ok-Refusal-clause-refused g c =
-    let answers = rw c.in-Ok-Refusal.field-0-is at c.in-Ok-Refusal.ensures.outputs in
-    refusal_refused _ _ _ _ _ _ c.in-Some.command answers.script _ answers.output_is.bad
-    c.in-Some.is answers.takes answers.output_is.refuses answers.output_is.tells
-    c.with_hint.ensures.0 (rw c.as_slice-in-Ok-Refusal.ensures at c.tell_text-in-Ok-Refusal.ensures)
+pub returns-clause-calm : goal.returns-clause-calm
+returns-clause-calm g c =
+    λ other. c.output_for.ensures.calm (calm_told c.output_for.result _ _ c.tell.result c.tell.ensures.told other)
 
-pub returns-in-Ok-Refusal-clause-complete : goal.returns-in-Ok-Refusal-clause-complete
-returns-in-Ok-Refusal-clause-complete g c =
-    let answers = rw c.in-Ok-Refusal.field-0-is at c.in-Ok-Refusal.ensures.outputs in
-    refusal_complete _ _ _ _ _ _ _ c.in-Some.command answers.script answers.output_is.bad
-    c.in-Some.is answers.takes answers.output_is.refuses
+pub returns-clause-write_fault : goal.returns-clause-write_fault
+returns-clause-write_fault g c =
+    (told_ends _ _ _ _ _ c.tell.result c.in-Some.command c.output_for.result c.in-Some.is c.output_for.ensures.outputs
+    (none_torn _ _ _ c.output_for.result c.output_for.ensures.whole) c.output_for.ensures.fault c.tell.ensures.told).write_fault
 
-pub returns-in-Ok-Refusal-clause-bad_script : goal.returns-in-Ok-Refusal-clause-bad_script
-returns-in-Ok-Refusal-clause-bad_script g c = λ is.
-    let answers = rw c.in-Ok-Refusal.field-0-is at c.in-Ok-Refusal.ensures.outputs in
-    refusal_bad _ _ _ _ _ c.in-Some.command answers.script _ answers.output_is.bad
-    c.in-Some.is answers.takes answers.output_is.refuses answers.output_is.tells
-    (rw c.as_slice-in-Ok-Refusal.ensures at c.tell_text-in-Ok-Refusal.ensures)
+pub returns-clause-no_memory : goal.returns-clause-no_memory
+returns-clause-no_memory g c =
+    λ is. nothing_told c.output_for.result _ _ c.tell.result c.tell.ensures.told c.tell.ensures.untold (inr (inl is))
+
+pub returns-clause-done : goal.returns-clause-done
+returns-clause-done g c =
+    (told_ends _ _ _ _ _ c.tell.result c.in-Some.command c.output_for.result c.in-Some.is c.output_for.ensures.outputs
+    (none_torn _ _ _ c.output_for.result c.output_for.ensures.whole) c.output_for.ensures.fault c.tell.ensures.told).done
+
+pub returns-clause-traced : goal.returns-clause-traced
+returns-clause-traced g c =
+    (told_ends _ _ _ _ _ c.tell.result c.in-Some.command c.output_for.result c.in-Some.is c.output_for.ensures.outputs
+    (none_torn _ _ _ c.output_for.result c.output_for.ensures.whole) c.output_for.ensures.fault c.tell.ensures.told).traced
+
+pub returns-clause-known : goal.returns-clause-known
+returns-clause-known g c =
+    (told_ends _ _ _ _ _ c.tell.result c.in-Some.command c.output_for.result c.in-Some.is c.output_for.ensures.outputs
+    (none_torn _ _ _ c.output_for.result c.output_for.ensures.whole) c.output_for.ensures.fault c.tell.ensures.told).known
+
+pub returns-clause-whole : goal.returns-clause-whole
+returns-clause-whole g c =
+    whole_report c.output_for.result _ _ c.tell.result c.output_for.ensures.whole c.tell.ensures.told
+
+pub returns-clause-refused : goal.returns-clause-refused
+returns-clause-refused g c =
+    (told_ends _ _ _ _ _ c.tell.result c.in-Some.command c.output_for.result c.in-Some.is c.output_for.ensures.outputs
+    (none_torn _ _ _ c.output_for.result c.output_for.ensures.whole) c.output_for.ensures.fault c.tell.ensures.told).refused
+
+pub returns-clause-complete : goal.returns-clause-complete
+returns-clause-complete g c =
+    (told_ends _ _ _ _ _ c.tell.result c.in-Some.command c.output_for.result c.in-Some.is c.output_for.ensures.outputs
+    (none_torn _ _ _ c.output_for.result c.output_for.ensures.whole) c.output_for.ensures.fault c.tell.ensures.told).complete

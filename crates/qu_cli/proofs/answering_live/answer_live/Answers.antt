@@ -1,57 +1,71 @@
--- The answer to what was taken is the one to what the source held.
-use Rattle.std.proofs.Common.{refl}
+-- What a command has to write is told, and so is how its call ends.
+use Rattle.std.proofs.Common.{refl, inl, inr}
 use Rattle.qu_words.specs.declared.command.Command.TheVariants.{Live}
-use Rattle.qu_cli.proofs.EndFacts.{report_refused, report_complete, report_done, report_short, refusal_bad, refusal_refused, refusal_complete, torn_refused}
+use Rattle.qu_cli.proofs.ToldFacts.{told_ends, fault_told, calm_told, nothing_told}
 use Rattle.qu_cli.proofs.answering_live.answer_live.Goals as goal
 
-pub returns-in-Ok-clause-refused : goal.returns-in-Ok-clause-refused
-returns-in-Ok-clause-refused g c =
-    report_refused _ _ _ _ _ _ Live c.in-Ok-Report.trace c.in-Ok-Report.text
-    refl (rw c.in-Ok-Report.field-0-is at c.in-Ok-Report.ensures.outputs)
+pub returns-clause-status : goal.returns-clause-status
+returns-clause-status g c =
+    let statuses = (told_ends _ _ _ _ _ c.tell.result Live c.live_output_for.result refl c.live_output_for.ensures.outputs
+    c.live_output_for.ensures.torn c.live_output_for.ensures.fault c.tell.ensures.told).status in (statuses.0, statuses.1.0)
 
-pub returns-in-Ok-clause-complete : goal.returns-in-Ok-clause-complete
-returns-in-Ok-clause-complete g c =
-    report_complete _ _ _ _ _ _ _ Live c.in-Ok-Report.trace c.in-Ok-Report.text
-    refl (rw c.in-Ok-Report.field-0-is at c.in-Ok-Report.ensures.outputs)
-    c.with_trace.ensures.trace c.with_trace.ensures.status (rw c.as_slice.ensures at c.in-Ok.ensures.whole)
+pub returns-clause-words : goal.returns-clause-words
+returns-clause-words g c =
+    (told_ends _ _ _ _ _ c.tell.result Live c.live_output_for.result refl c.live_output_for.ensures.outputs
+    c.live_output_for.ensures.torn c.live_output_for.ensures.fault c.tell.ensures.told).status.1.1
 
-pub returns-in-Ok-clause-done : goal.returns-in-Ok-clause-done
-returns-in-Ok-clause-done g c = λ is.
-    report_done _ _ _ _ _ _ Live c.in-Ok-Report.trace c.in-Ok-Report.text
-    refl (rw c.in-Ok-Report.field-0-is at c.in-Ok-Report.ensures.outputs)
-    c.with_trace.ensures.trace (rw c.as_slice.ensures at c.in-Ok.ensures.whole) c.in-Ok.ensures.calm
+pub returns-clause-bad_script : goal.returns-clause-bad_script
+returns-clause-bad_script g c =
+    (told_ends _ _ _ _ _ c.tell.result Live c.live_output_for.result refl c.live_output_for.ensures.outputs
+    c.live_output_for.ensures.torn c.live_output_for.ensures.fault c.tell.ensures.told).bad_script
 
-pub returns-in-Ok-Report-clause-write_fault : goal.returns-in-Ok-Report-clause-write_fault
-returns-in-Ok-Report-clause-write_fault g c = λ is.
-    report_short _ _ _ _ _ _ Live c.in-Ok-Report.trace c.in-Ok-Report.text
-    refl (rw c.in-Ok-Report.field-0-is at c.in-Ok-Report.ensures.outputs)
-    c.with_trace-in-Err.ensures.trace (rw c.as_slice.ensures at c.in-Err.ensures.short)
+pub returns-clause-read_fault : goal.returns-clause-read_fault
+returns-clause-read_fault g c =
+    λ is. (c.live_output_for.ensures.fault (fault_told c.live_output_for.result _ _ c.tell.result c.tell.ensures.told is), nothing_told c.live_output_for.result _ _ c.tell.result c.tell.ensures.told c.tell.ensures.untold (inl is))
 
-pub returns-in-Ok-Report-clause-refused : goal.returns-in-Ok-Report-clause-refused
-returns-in-Ok-Report-clause-refused g c =
-    report_refused _ _ _ _ _ _ Live c.in-Ok-Report.trace c.in-Ok-Report.text
-    refl (rw c.in-Ok-Report.field-0-is at c.in-Ok-Report.ensures.outputs)
+pub returns-clause-calm : goal.returns-clause-calm
+returns-clause-calm g c =
+    λ other. c.live_output_for.ensures.calm (calm_told c.live_output_for.result _ _ c.tell.result c.tell.ensures.told other)
 
-pub returns-in-Ok-Refusal-clause-refused : goal.returns-in-Ok-Refusal-clause-refused
-returns-in-Ok-Refusal-clause-refused g c =
-    let answers = rw c.in-Ok-Refusal.field-0-is at c.in-Ok-Refusal.ensures.outputs in
-    refusal_refused _ _ _ _ _ _ Live answers.script _ answers.output_is.bad
-    refl answers.takes answers.output_is.refuses answers.output_is.tells
-    c.with_hint.ensures.0 (rw c.as_slice-in-Ok-Refusal.ensures at c.tell_text.ensures)
+pub returns-clause-write_fault : goal.returns-clause-write_fault
+returns-clause-write_fault g c =
+    (told_ends _ _ _ _ _ c.tell.result Live c.live_output_for.result refl c.live_output_for.ensures.outputs
+    c.live_output_for.ensures.torn c.live_output_for.ensures.fault c.tell.ensures.told).write_fault
 
-pub returns-in-Ok-Refusal-clause-complete : goal.returns-in-Ok-Refusal-clause-complete
-returns-in-Ok-Refusal-clause-complete g c =
-    let answers = rw c.in-Ok-Refusal.field-0-is at c.in-Ok-Refusal.ensures.outputs in
-    refusal_complete _ _ _ _ _ _ _ Live answers.script answers.output_is.bad
-    refl answers.takes answers.output_is.refuses
+pub returns-clause-no_memory : goal.returns-clause-no_memory
+returns-clause-no_memory g c =
+    λ is. nothing_told c.live_output_for.result _ _ c.tell.result c.tell.ensures.told c.tell.ensures.untold (inr (inl is))
+
+pub returns-clause-done : goal.returns-clause-done
+returns-clause-done g c =
+    (told_ends _ _ _ _ _ c.tell.result Live c.live_output_for.result refl c.live_output_for.ensures.outputs
+    c.live_output_for.ensures.torn c.live_output_for.ensures.fault c.tell.ensures.told).done
+
+pub returns-clause-traced : goal.returns-clause-traced
+returns-clause-traced g c =
+    (told_ends _ _ _ _ _ c.tell.result Live c.live_output_for.result refl c.live_output_for.ensures.outputs
+    c.live_output_for.ensures.torn c.live_output_for.ensures.fault c.tell.ensures.told).traced
+
+pub returns-clause-known : goal.returns-clause-known
+returns-clause-known g c =
+    (told_ends _ _ _ _ _ c.tell.result Live c.live_output_for.result refl c.live_output_for.ensures.outputs
+    c.live_output_for.ensures.torn c.live_output_for.ensures.fault c.tell.ensures.told).known
+
+pub returns-clause-torn : goal.returns-clause-torn
+returns-clause-torn g c =
+    (told_ends _ _ _ _ _ c.tell.result Live c.live_output_for.result refl c.live_output_for.ensures.outputs
+    c.live_output_for.ensures.torn c.live_output_for.ensures.fault c.tell.ensures.told).torn
+
+pub returns-clause-tears : goal.returns-clause-tears
+returns-clause-tears g c =
+    λ is. nothing_told c.live_output_for.result _ _ c.tell.result c.tell.ensures.told c.tell.ensures.untold (inr (inr is))
 
 pub returns-clause-refused : goal.returns-clause-refused
 returns-clause-refused g c =
-    torn_refused _ _ _ _ _ _ Live refl (rw c.in-Err-Torn.field-0-is at c.in-Err-Torn.ensures.torn)
+    (told_ends _ _ _ _ _ c.tell.result Live c.live_output_for.result refl c.live_output_for.ensures.outputs
+    c.live_output_for.ensures.torn c.live_output_for.ensures.fault c.tell.ensures.told).refused
 
-pub returns-in-Ok-Refusal-clause-bad_script : goal.returns-in-Ok-Refusal-clause-bad_script
-returns-in-Ok-Refusal-clause-bad_script g c = λ is.
-    let answers = rw c.in-Ok-Refusal.field-0-is at c.in-Ok-Refusal.ensures.outputs in
-    refusal_bad _ _ _ _ _ Live answers.script _ answers.output_is.bad
-    refl answers.takes answers.output_is.refuses answers.output_is.tells
-    (rw c.as_slice-in-Ok-Refusal.ensures at c.tell_text.ensures)
+pub returns-clause-complete : goal.returns-clause-complete
+returns-clause-complete g c =
+    (told_ends _ _ _ _ _ c.tell.result Live c.live_output_for.result refl c.live_output_for.ensures.outputs
+    c.live_output_for.ensures.torn c.live_output_for.ensures.fault c.tell.ensures.told).complete

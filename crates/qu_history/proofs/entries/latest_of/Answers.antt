@@ -2,10 +2,9 @@ use Rattle.std.proofs.Common.{◌≡◌, ◌+◌, take, sym, ◌∙◌, ap}
 use Rattle.qu_stamp.specs.declared.stamp.Stamp.{Stamp}
 use Rattle.qu_stamp.specs.Stamp.{is_below}
 use Rattle.qu_history.specs.History.{greater_stamp, latest}
-use Rattle.qu_history.specs.Sets.{latest_of}
+use Rattle.qu_history.specs.Sets.{latest_of, histories}
 use Rattle.qu_history.proofs.Method.{latest_of_next}
 use Rattle.qu_history.proofs.Stamps.{greater_first, greater_second}
-use Rattle.qu_history.specs.Sets.{histories}
 use Rattle.qu_history.proofs.Histories.{histories_within, history_at}
 use Rattle.qu_history.proofs.entries.latest_of.Goals as goal
 use Rattle.qu_history.proofs.entries.latest_of.Goals.{then-is_below, else-is_below}

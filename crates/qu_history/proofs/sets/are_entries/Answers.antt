@@ -1,8 +1,7 @@
 use Rattle.std.proofs.Common.{◌+◌, drop, sym, ◌∙◌, ap}
 use Rattle.qu_base.specs.declared.party.ReplicaId.{ReplicaId}
-use Rattle.qu_history.specs.Sets.{are_entries}
+use Rattle.qu_history.specs.Sets.{are_entries, histories}
 use Rattle.qu_history.proofs.SetLaws.{are_entries_all, are_entries_no, are_entries_more}
-use Rattle.qu_history.specs.Sets.{histories}
 use Rattle.qu_history.proofs.Histories.{histories_within, histories_whole, history_at}
 use Rattle.qu_history.proofs.sets.are_entries.Goals as goal
 

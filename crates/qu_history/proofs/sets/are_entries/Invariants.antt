@@ -1,6 +1,5 @@
 use Rattle.std.proofs.Common.{◌≡◌, drop}
-use Rattle.qu_history.specs.Sets.{are_entries}
-use Rattle.qu_history.specs.Sets.{histories}
+use Rattle.qu_history.specs.Sets.{are_entries, histories}
 use Rattle.qu_history.proofs.sets.are_entries.Given as goal
 
 abbrev pub invariant-loop-entry : goal.invariant-loop-entry
