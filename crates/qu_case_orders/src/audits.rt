@@ -56,12 +56,12 @@ fn audited_run(
 fn world_where(alloc: Global, setup: &str, word: &str) -> Result<World, NoAnswer> {
     let text = format!(in alloc; "{setup}\n")?;
     let script = script_of(alloc, text.as_bytes())?;
-    let setup = setup_with(script.setup, word)?;
+    let setup = setup_with(alloc, script.setup.copy(alloc)?, word)?;
     Ok(start(alloc, setup)?)
 }
 
 /// The setup in which the client of a word is faulty too, the same where there is no word.
-fn setup_with(setup: Setup, word: &str) -> Result<Setup, NoAnswer>
+fn setup_with(alloc: Global, setup: Setup, word: &str) -> Result<Setup, NoAnswer>
     requires { IsSetup setup }
     ensures { IfOk result IsSetup }
 {
@@ -69,32 +69,21 @@ fn setup_with(setup: Setup, word: &str) -> Result<Setup, NoAnswer>
         return Ok(setup);
     }
     match party(word)? {
-        Party::Client(client) => Ok(with_faulty_client(setup, client)?),
+        Party::Client(client) => Ok(with_faulty_client(alloc, setup, client)?),
         Party::Replica(_) => Err(NoAnswer::Word),
     }
 }
 
 /// The setup in which this client is faulty too, the first of them.
-fn with_faulty_client(setup: Setup, client: ClientId) -> Result<Setup, NoMemory>
+fn with_faulty_client(alloc: Global, setup: Setup, client: ClientId) -> Result<Setup, NoMemory>
     requires { IsSetup setup }
     ensures { IfOk result IsSetup }
 {
-    let Setup {
-        bounds,
-        seed,
-        clients,
-        kinds,
-        liars,
-    } = setup;
-    let mut liars = liars.into_vec();
+    let mut liars = setup.liars.copy(alloc)?.into_vec();
     liars.insert(0, Party::Client(client))?;
-    Ok(Setup {
-        bounds,
-        seed,
-        clients,
-        kinds,
-        liars: List::from(liars),
-    })
+    let mut setup = setup;
+    setup.liars = List::from(liars);
+    Ok(setup)
 }
 
 /// `audit` without what it promises.

@@ -42,7 +42,7 @@ fn run(alloc: Global, script: &Script) -> Result<Trace, NoAnswer>
 /// The world with which the run of a script begins.
 pub fn world_of(alloc: Global, text: &[u8]) -> Result<World, NoAnswer> {
     let script = script_of(alloc, text)?;
-    Ok(start(alloc, script.setup)?)
+    Ok(start(alloc, script.setup.copy(alloc)?)?)
 }
 
 /// The world with which a run of this setup begins.

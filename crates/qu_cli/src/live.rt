@@ -81,7 +81,7 @@ fn run_calls<R: Threads + Wait + Sync, G: Gate>(
     ensures run { IfOk result IsRun }
 {
     let calls = script.calls(alloc)?;
-    let Script { setup, lines: _ } = script;
+    let setup = script.setup.copy(alloc)?;
     let trace = run_live(rt, alloc, setup, calls.as_slice(), gate)?;
     Ok(trace)
 }

@@ -52,7 +52,7 @@ impl Body {
 }
 
 /// What one party sends to another, under an HMAC of the pair's key.
-#[derive(Debug, Drop)]
+#[derive(Debug)]
 pub enum Frame {
     /// A client's operation, by its number and round, upon the histories that the client was shown.
     Request {
@@ -90,6 +90,45 @@ pub enum Frame {
         state: ObjState,
         mac: [u8; 32],
     },
+}
+
+/// By hand, so that a value is let go in one step wherever that is.
+impl Drop for Frame {
+    fn drop(self) {
+        match self {
+            Frame::Request {
+                client: _,
+                number: _,
+                round: _,
+                sets: _,
+                body: _,
+                mac: _,
+            }
+            | Frame::Reply {
+                replica: _,
+                client: _,
+                number: _,
+                round: _,
+                verdict: _,
+                culled: _,
+                shown: _,
+                mac: _,
+            }
+            | Frame::Fetch {
+                replica: _,
+                object: _,
+                stamp: _,
+                mac: _,
+            }
+            | Frame::Fetched {
+                replica: _,
+                object: _,
+                stamp: _,
+                state: _,
+                mac: _,
+            } => {}
+        }
+    }
 }
 
 impl Frame {
@@ -223,14 +262,37 @@ fn fetched_copy(
 }
 
 /// The bytes of a frame on their way.
-#[derive(Debug, Drop)]
+#[derive(Debug)]
 pub struct Letter {
     pub from: Party,
     pub to: Party,
     pub text: List<u8>,
 }
 
+/// By hand, so that a value is let go in one step wherever that is.
+impl Drop for Letter {
+    fn drop(self) {
+        let Letter {
+            from: _,
+            to: _,
+            text: _,
+        } = self;
+    }
+}
+
 impl Letter {
+    /// Its bytes, which are not copied.
+    pub fn into_text(self) -> List<u8>
+        ensures { result ≡ self.text }
+    {
+        let Letter {
+            from: _,
+            to: _,
+            text,
+        } = self;
+        text
+    }
+
     /// An equal letter.
     pub fn copy(&self, alloc: Global) -> Result<Letter, NoMemory>
         ensures { IfOk result (λ letter. letter ≡ self.now) }

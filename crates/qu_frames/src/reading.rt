@@ -71,33 +71,43 @@ impl Model for Reading {
 
 impl Reading {
     /// The request of a text. None exactly of a text that is decoded to no request.
-    #[tactic(auto, using(crate::proofs::Readings::request_is_read))]
     pub fn of(alloc: Global, text: &[u8]) -> Result<Option<Reading>, NoMemory>
         ensures none { IfOk result (λ found. IsNone found ↔ is_request (decoded text.now) ≡ false) }
         ensures front { IfOk result (λ found. IfSome found (λ reading. reading.front ≡ before_mac text.now)) }
     {
-        Cursor::new(text).are_bytes();
         match decode(alloc, text) {
-            Ok(
-                Frame::Request {
-                    client,
-                    number,
-                    round,
-                    sets,
-                    body,
-                    ..
-                },
-            ) => Ok(Some(Reading {
-                front: List::from_clones(alloc, before_mac(text))?,
-                digest: text_digest(text),
+            Ok(frame) => Reading::of_frame(alloc, &frame, text),
+            Err(ReadFail::Bad(_)) => Ok(None),
+            Err(ReadFail::NoMemory) => Err(NoMemory),
+        }
+    }
+
+    /// The request of a frame, where this is its text. None exactly of another frame.
+    #[tactic(auto, using(crate::proofs::Readings::request_is_read))]
+    fn of_frame(alloc: Global, frame: &Frame, text: &[u8]) -> Result<Option<Reading>, NoMemory>
+        requires { decoded text.now ≡ Ok frame.now }
+        ensures none { IfOk result (λ found. IsNone found ↔ is_request (decoded text.now) ≡ false) }
+        ensures front { IfOk result (λ found. IfSome found (λ reading. reading.front ≡ before_mac text.now)) }
+    {
+        Cursor::new(text).are_bytes();
+        match frame {
+            Frame::Request {
                 client,
                 number,
                 round,
-                sets: DigestedSets::of(alloc, sets)?,
+                sets,
                 body,
+                ..
+            } => Ok(Some(Reading {
+                front: List::from_clones(alloc, before_mac(text))?,
+                digest: text_digest(text),
+                client: *client,
+                number: *number,
+                round: *round,
+                sets: DigestedSets::of(alloc, sets.copy()?)?,
+                body: body.copy(alloc)?,
             })),
-            Ok(_) | Err(ReadFail::Bad(_)) => Ok(None),
-            Err(ReadFail::NoMemory) => Err(NoMemory),
+            Frame::Reply { .. } | Frame::Fetch { .. } | Frame::Fetched { .. } => Ok(None),
         }
     }
 

@@ -28,9 +28,16 @@ pub struct Learnt {
 }
 
 /// The candidates of each object at one replica.
-#[derive(Debug, Drop)]
+#[derive(Debug)]
 pub struct ShownRow {
     objects: Vec<List<Candidate>>,
+}
+
+/// By hand, so that a value is let go in one step wherever that is.
+impl Drop for ShownRow {
+    fn drop(self) {
+        let ShownRow { objects: _ } = self;
+    }
 }
 
 impl Model for ShownRow {
@@ -148,9 +155,16 @@ fn learn(
 }
 
 /// The candidates of each replica.
-#[derive(Debug, Drop)]
+#[derive(Debug)]
 pub struct Known {
     rows: Vec<ShownRow>,
+}
+
+/// By hand, so that a value is let go in one step wherever that is.
+impl Drop for Known {
+    fn drop(self) {
+        let Known { rows: _ } = self;
+    }
 }
 
 impl Model for Known {

@@ -21,10 +21,19 @@ pub struct Actors<N: RunName> {
 }
 
 /// The actors of a run behind their locks, which the workers share.
-#[derive(Drop)]
 pub struct Locks<N: RunName> {
     pub replicas: Vec<ReplicaLock<N>>,
     pub clients: Vec<ClientLock<N>>,
+}
+
+/// By hand, so that a value is let go in one step wherever that is.
+impl<N: RunName> Drop for Locks<N> {
+    fn drop(self) {
+        let Locks {
+            replicas: _,
+            clients: _,
+        } = self;
+    }
 }
 
 impl<N: RunName> Actors<N> {

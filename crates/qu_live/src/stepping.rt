@@ -29,7 +29,7 @@ pub fn step_replica<N: RunName, R: Wait, G: Gate>(
     let Some((name, letter)) = post.lock(rt).take(me) else {
         return Ok(false);
     };
-    let input = Input::Frame(name, letter.text);
+    let input = Input::Frame(name, letter.into_text());
     gate.pass(me, 1);
     let ticket = draw(rt, post, kept, &input);
     let sent = kept.step(input, ticket)?;
@@ -78,7 +78,7 @@ fn next_input<N: RunName, R: Wait>(
 {
     let mut post = post.lock(rt);
     if let Some((name, letter)) = post.take(kept.party()) {
-        return Ok(Some(Input::Frame(name, letter.text)));
+        return Ok(Some(Input::Frame(name, letter.into_text())));
     }
     if kept.actor().busy() {
         if !post.quiet() {

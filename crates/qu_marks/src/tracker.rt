@@ -13,9 +13,16 @@ use std::alloc::Global;
 use std::marker::Model;
 
 /// The candidates that replicas accepted, with the events after which they were decided.
-#[derive(Debug, Drop)]
+#[derive(Debug)]
 pub struct Tracker {
     tracked: Vec<Tracked>,
+}
+
+/// By hand, so that a value is let go in one step wherever that is.
+impl Drop for Tracker {
+    fn drop(self) {
+        let Tracker { tracked: _ } = self;
+    }
 }
 
 impl Model for Tracker {

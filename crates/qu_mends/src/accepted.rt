@@ -6,12 +6,23 @@ use qu_stamp::Candidate;
 use std::alloc::Global;
 
 /// A candidate that a replica accepts on an object.
-#[derive(Debug, Drop)]
+#[derive(Debug)]
 pub struct Accepted {
     pub object: ObjectId,
     pub candidate: Candidate,
     /// Its version. A barrier has none, and that of a candidate which was shown is stored already.
     pub state: Option<ObjState>,
+}
+
+/// By hand, so that a value is let go in one step wherever that is.
+impl Drop for Accepted {
+    fn drop(self) {
+        let Accepted {
+            object: _,
+            candidate: _,
+            state: _,
+        } = self;
+    }
 }
 
 impl Accepted {

@@ -21,7 +21,7 @@ use qu_stamp::{Candidate, Group, LAST_TIME, Stamp};
 use std::alloc::Global;
 
 /// A request to mend an object, with what its culled sets say of it.
-#[derive(Debug, Drop)]
+#[derive(Debug)]
 pub struct Mend {
     pub target: ObjectId,
     /// Who asks for it.
@@ -36,6 +36,21 @@ pub struct Mend {
     pub remedies: List<(ObjectId, Remedy)>,
     /// The group of what is made on them; none where the target is mended alone, or a time would be after the last.
     pub made: Group,
+}
+
+/// By hand, so that a value is let go in one step wherever that is.
+impl Drop for Mend {
+    fn drop(self) {
+        let Mend {
+            target: _,
+            client: _,
+            set: _,
+            latest: _,
+            remedy: _,
+            remedies: _,
+            made: _,
+        } = self;
+    }
 }
 
 // The replica's table for a request to mend an object: its rows in the order in which they are tried, below the order

@@ -16,10 +16,19 @@ use qu_trace::DecodedTrace;
 use std::alloc::Global;
 
 /// What is known of the events of a run so far.
-#[derive(Drop)]
 pub struct Past<'a> {
     pub shown: ShownSoFar<'a>,
     pub digests: Digests,
+}
+
+/// By hand, so that a value is let go in one step wherever that is.
+impl<'a> Drop for Past<'a> {
+    fn drop(self) {
+        let Past {
+            shown: _,
+            digests: _,
+        } = self;
+    }
 }
 
 /// Whether the premises hold of a run, and else the first event that breaks one: at a tie it is what is forged.

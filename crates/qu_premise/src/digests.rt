@@ -13,21 +13,37 @@ use std::alloc::Global;
 use std::collections::HashMap;
 
 /// A text that was digested, and the event that digested it first.
-#[derive(Debug, Drop)]
+#[derive(Debug)]
 pub struct Seen {
     pub event: u64,
     pub text: Text,
+}
+
+/// By hand, so that a value is let go in one step wherever that is.
+impl Drop for Seen {
+    fn drop(self) {
+        let Seen { event: _, text: _ } = self;
+    }
 }
 
 /// How many bytes of each end of a text are in its sample.
 const SAMPLED: usize = 32;
 
 /// Of each digest the text that first had it.
-#[derive(Drop)]
 pub struct Digests {
     pub seen: HashMap<Digest, Seen>,
     /// Of each sample the digest of the last text that had it, by which that text is found without its digest.
     pub sampled: HashMap<Digest, Digest>,
+}
+
+/// By hand, so that a value is let go in one step wherever that is.
+impl Drop for Digests {
+    fn drop(self) {
+        let Digests {
+            seen: _,
+            sampled: _,
+        } = self;
+    }
 }
 
 impl Digests {

@@ -37,11 +37,20 @@ impl<'a> Shown<'a> {
 }
 
 /// What the letters so far show.
-#[derive(Drop)]
 pub struct ShownSoFar<'a> {
     shown: Vec<Shown<'a>>,
     /// Of an HMAC the place of a letter that showed a history with it: where that one is looked for first.
     places: HashMap<[u8; 32], usize>,
+}
+
+/// By hand, so that a value is let go in one step wherever that is.
+impl<'a> Drop for ShownSoFar<'a> {
+    fn drop(self) {
+        let ShownSoFar {
+            shown: _,
+            places: _,
+        } = self;
+    }
 }
 
 impl<'a> Model for ShownSoFar<'a> {

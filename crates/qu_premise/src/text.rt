@@ -7,11 +7,22 @@ use std::alloc::Global;
 use std::marker::Model;
 
 /// A text under the tag of its kind, and its digest. The bytes can be held several times.
-#[derive(Debug, Drop)]
+#[derive(Debug)]
 pub struct Text {
     tag: u8,
     bytes: Shared<List<u8>>,
     digest: Digest,
+}
+
+/// By hand, so that a value is let go in one step wherever that is.
+impl Drop for Text {
+    fn drop(self) {
+        let Text {
+            tag: _,
+            bytes: _,
+            digest: _,
+        } = self;
+    }
 }
 
 impl Model for Text {

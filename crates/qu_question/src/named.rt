@@ -8,9 +8,16 @@ use std::alloc::Global;
 use std::marker::Model;
 
 /// One to eight objects in rising order: those that are named in an operation.
-#[derive(Debug, Drop)]
+#[derive(Debug)]
 pub struct Named {
     objects: List<ObjectId>,
+}
+
+/// By hand, so that a value is let go in one step wherever that is.
+impl Drop for Named {
+    fn drop(self) {
+        let Named { objects: _ } = self;
+    }
 }
 
 impl Model for Named {

@@ -7,8 +7,17 @@ use qu_versions::Prepared;
 use qu_waiting::{Next, Running, Turn};
 use std::alloc::Global;
 
+/// The parts of a gain, in the order of its fields.
+type GainParts = (
+    List<History>,
+    Prepared,
+    Prepared,
+    Option<Turn>,
+    Option<List<Running>>,
+);
+
 /// What a replica's state gains by a step, as whole parts that are only moved in.
-#[derive(Debug, Drop)]
+#[derive(Debug)]
 pub struct Gain {
     /// The histories of the objects of which candidates are accepted, with these candidates.
     pub histories: List<History>,
@@ -20,6 +29,19 @@ pub struct Gain {
     pub turn: Option<Turn>,
     /// The fetches that run from now on, where they change.
     pub fetching: Option<List<Running>>,
+}
+
+/// By hand, so that a value is let go in one step wherever that is.
+impl Drop for Gain {
+    fn drop(self) {
+        let Gain {
+            histories: _,
+            found: _,
+            versions: _,
+            turn: _,
+            fetching: _,
+        } = self;
+    }
 }
 
 impl Gain {
@@ -44,12 +66,19 @@ impl Gain {
     pub(crate) fn with_accepted(self, histories: List<History>, versions: Prepared) -> Gain
         ensures { result ≡ record self { histories = histories; versions = versions } }
     {
+        let Gain {
+            histories: _,
+            found,
+            versions: _,
+            turn,
+            fetching,
+        } = self;
         Gain {
             histories,
-            found: self.found,
+            found,
             versions,
-            turn: self.turn,
-            fetching: self.fetching,
+            turn,
+            fetching,
         }
     }
 
@@ -57,12 +86,19 @@ impl Gain {
     pub(crate) fn with_turn(self, client: ClientId, next: Next) -> Gain
         ensures { result ≡ record self { turn = Some (record { client = client; next = next }) } }
     {
+        let Gain {
+            histories,
+            found,
+            versions,
+            turn: _,
+            fetching,
+        } = self;
         Gain {
-            histories: self.histories,
-            found: self.found,
-            versions: self.versions,
+            histories,
+            found,
+            versions,
             turn: Some(Turn { client, next }),
-            fetching: self.fetching,
+            fetching,
         }
     }
 
@@ -70,20 +106,61 @@ impl Gain {
     pub(crate) fn with_fetching(self, fetching: List<Running>) -> Gain
         ensures { result ≡ record self { fetching = Some fetching } }
     {
+        let Gain {
+            histories,
+            found,
+            versions,
+            turn,
+            fetching: _,
+        } = self;
         Gain {
-            histories: self.histories,
-            found: self.found,
-            versions: self.versions,
-            turn: self.turn,
+            histories,
+            found,
+            versions,
+            turn,
             fetching: Some(fetching),
         }
+    }
+
+    /// Its parts, in the order of the fields.
+    pub(crate) fn into_parts(self) -> GainParts
+        ensures { result ≡ (self.histories, self.found, self.versions, self.turn, self.fetching) }
+    {
+        let Gain {
+            histories,
+            found,
+            versions,
+            turn,
+            fetching,
+        } = self;
+        (histories, found, versions, turn, fetching)
     }
 }
 
 /// What a step of a replica will make. To carry it out takes no memory.
-#[derive(Debug, Drop)]
+#[derive(Debug)]
 pub struct Planned {
     /// What the replica's state gains.
     pub gain: Gain,
     pub letters: List<Letter>,
+}
+
+/// By hand, so that a value is let go in one step wherever that is.
+impl Drop for Planned {
+    fn drop(self) {
+        let Planned {
+            gain: _,
+            letters: _,
+        } = self;
+    }
+}
+
+impl Planned {
+    /// What the state gains, and the letters.
+    pub(crate) fn into_parts(self) -> (Gain, List<Letter>)
+        ensures { result ≡ (self.gain, self.letters) }
+    {
+        let Planned { gain, letters } = self;
+        (gain, letters)
+    }
 }

@@ -88,10 +88,29 @@ impl Model for Replica {
 }
 
 /// What a replica makes of a request: the entries that its reply names, and its decision.
-#[derive(Drop)]
 struct Handled {
     named: List<(ObjectId, ReplicaId)>,
     decision: Decision,
+}
+
+/// By hand, so that a value is let go in one step wherever that is.
+impl Drop for Handled {
+    fn drop(self) {
+        let Handled {
+            named: _,
+            decision: _,
+        } = self;
+    }
+}
+
+impl Handled {
+    /// The entries that are named, and the decision.
+    fn into_parts(self) -> (List<(ObjectId, ReplicaId)>, Decision)
+        ensures { result ≡ (self.named, self.decision) }
+    {
+        let Handled { named, decision } = self;
+        (named, decision)
+    }
 }
 
 impl Replica {
@@ -206,7 +225,7 @@ impl Replica {
         if !reading.is_brought(&self.keys, Party::Replica(self.me), text) {
             return self.plan_letters(List::new(self.alloc));
         }
-        let Handled { named, decision } = self.handle(&self.rows(None), reading)?;
+        let (named, decision) = self.handle(&self.rows(None), reading)?.into_parts();
         match decision {
             Decision::Answers { verdict, accepted } => {
                 let gain = Gain::nothing(self.alloc);
@@ -222,7 +241,7 @@ impl Replica {
         ensures state { self.new ≡ with_gain self.old planned.gain }
         ensures letters { result ≡ planned.letters }
     {
-        let Planned { gain, letters } = planned;
+        let (gain, letters) = planned.into_parts();
         self.take(gain);
         letters
     }
@@ -233,13 +252,7 @@ impl Replica {
         requires { MayGain self.old gain }
         ensures { self.new ≡ with_gain self.old gain }
     {
-        let Gain {
-            histories,
-            found,
-            versions,
-            turn,
-            fetching,
-        } = gain;
+        let (histories, found, versions, turn, fetching) = gain.into_parts();
         put_histories(&mut self.histories, histories);
         self.versions.put_prepared(found);
         self.versions.put_prepared(versions);

@@ -32,7 +32,6 @@ use std::marker::Model;
 
 /// What a replica looks at when it decides upon a request: its histories, its versions, and at most one version more,
 /// which stands behind the others and is not stored yet.
-#[derive(Drop)]
 pub struct Rows<'a> {
     alloc: Global,
     me: ReplicaId,
@@ -40,6 +39,20 @@ pub struct Rows<'a> {
     histories: &'a [History],
     versions: &'a VersionStore,
     more: Option<&'a Stored>,
+}
+
+/// By hand, so that a value is let go in one step wherever that is.
+impl<'a> Drop for Rows<'a> {
+    fn drop(self) {
+        let Rows {
+            alloc: _,
+            me: _,
+            keys: _,
+            histories: _,
+            versions: _,
+            more: _,
+        } = self;
+    }
 }
 
 impl<'a> Model for Rows<'a> {

@@ -4,7 +4,7 @@ ghost use Rattle.std.specs.Option.{option_copied};
 ghost use Rattle.qu_frames.specs.Formats.{objects_in_sets};
 ghost use Rattle.qu_adversary.specs.Sealing.{sealed_for};
 ghost use Rattle.qu_world.specs.State.{ring_of};
-ghost use Rattle.qu_script.specs.Fake.{last_request, last_reply, thin, shown_now, is_history_of, echoed, far_candidate, far_history, asked_in, told_of, all_replicas, reached, fake_reply_text, fake_of};
+ghost use Rattle.qu_script.specs.Fake.{last_request, last_reply, thin, shown_now, is_history_of, echoed, far_candidate, far_history, asked_in, reply_in, told_of, all_replicas, reached, fake_reply_text, fake_of};
 
 use super::letters::last_sent;
 use qu_adversary::{in_name_of, reply_of, sealed_for};
@@ -161,9 +161,22 @@ fn last_reply(
         return Ok(None);
     };
     match decode(alloc, letter.text.as_slice()) {
-        Ok(Frame::Reply { verdict, shown, .. }) => Ok(Some((verdict, shown))),
-        Ok(_) | Err(ReadFail::Bad(_)) => Ok(None),
+        Ok(frame) => told_in(alloc, &frame),
+        Err(ReadFail::Bad(_)) => Ok(None),
         Err(ReadFail::NoMemory) => Err(NoMemory),
+    }
+}
+
+/// What a frame tells, where it is a reply.
+fn told_in(alloc: Global, frame: &Frame) -> Result<Option<(Verdict, List<Sealed>)>, NoMemory>
+    ensures { IfOk result (λ told. told ≡ reply_in (Ok frame.now)) }
+{
+    match frame {
+        Frame::Reply { verdict, shown, .. } => Ok(Some((
+            verdict.copy(alloc)?,
+            Sealed::copy_all(alloc, shown.as_slice())?,
+        ))),
+        _ => Ok(None),
     }
 }
 

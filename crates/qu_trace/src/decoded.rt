@@ -18,7 +18,6 @@ use std::marker::Model;
 
 /// A run with what is read of it more than once: the frame of each letter and of each text that is injected, where the
 /// letters of each entry begin, and the operations.
-#[derive(Drop)]
 pub struct DecodedTrace<'a> {
     trace: &'a Trace,
     starts: Starts,
@@ -27,6 +26,19 @@ pub struct DecodedTrace<'a> {
     /// The frame that each event injects; None where it injects none.
     injected: Vec<Option<Frame>>,
     operations: List<OpRecord>,
+}
+
+/// By hand, so that a value is let go in one step wherever that is.
+impl<'a> Drop for DecodedTrace<'a> {
+    fn drop(self) {
+        let DecodedTrace {
+            trace: _,
+            starts: _,
+            frames: _,
+            injected: _,
+            operations: _,
+        } = self;
+    }
 }
 
 impl<'a> Model for DecodedTrace<'a> {

@@ -13,12 +13,19 @@ use std::marker::Model;
 
 /// Where the letters of each entry of a run begin among all letters, counted from 0. A number that 64 bits do not hold
 /// stands as their greatest one.
-#[derive(Debug, Drop)]
+#[derive(Debug)]
 pub struct Starts {
     /// For each entry the number of letters before its own.
     pub places: Vec<u64>,
     /// The number of all letters.
     pub next: u64,
+}
+
+/// By hand, so that a value is let go in one step wherever that is.
+impl Drop for Starts {
+    fn drop(self) {
+        let Starts { places: _, next: _ } = self;
+    }
 }
 
 impl Starts {

@@ -8,7 +8,7 @@ use qu_objects::{KindName, Outcome};
 use std::alloc::Global;
 
 /// Who takes part in a run, and what objects there are.
-#[derive(Debug, Drop)]
+#[derive(Debug)]
 pub struct Setup {
     pub bounds: Bounds,
     /// For the keys, and for waits once there are any.
@@ -19,6 +19,19 @@ pub struct Setup {
     pub kinds: List<KindName>,
     /// The faulty parties, which have no steps of their own.
     pub liars: List<Party>,
+}
+
+/// By hand, so that a value is let go in one step wherever that is.
+impl Drop for Setup {
+    fn drop(self) {
+        let Setup {
+            bounds: _,
+            seed: _,
+            clients: _,
+            kinds: _,
+            liars: _,
+        } = self;
+    }
 }
 
 impl Setup {

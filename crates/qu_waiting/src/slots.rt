@@ -1,9 +1,9 @@
 ghost use Rattle.std.specs.Prelude.{◌≡◌, ◌+◌, replicate, None, Some, IfOk};
 ghost use Rattle.qu_base.specs.declared.limits.TheConstants.{LAST_CLIENT};
 ghost use Rattle.std.specs.Option.{option_copied};
-ghost use Rattle.qu_waiting.specs.Slots.{lacks, first_waiting, next_slot, with_turn};
+ghost use Rattle.qu_waiting.specs.Slots.{lacks, first_waiting, with_turn};
 
-use crate::next::{Next, Turn};
+use crate::next::Turn;
 use crate::waiting::Waiting;
 use qu_base::{LAST_CLIENT, NoMemory, ObjectId};
 use qu_stamp::Stamp;
@@ -44,22 +44,10 @@ pub fn first_waiting<'a>(
 pub fn turn_slot(slots: &mut [Option<Waiting>], turn: Turn)
     ensures { slots.new ≡ with_turn (Some turn) slots.old }
 {
-    let Turn { client, next } = turn;
+    let (client, next) = turn.into_parts();
     let place = usize::from(client.0);
     if place < slots.len() {
-        slots[place] = next_slot(next, slots[place].take());
-    }
-}
-
-/// What a slot that holds this holds next.
-fn next_slot(next: Next, slot: Option<Waiting>) -> Option<Waiting>
-    ensures { result ≡ next_slot next slot }
-{
-    match (next, slot) {
-        (Next::Nothing, _) => None,
-        (Next::Waits(waiting), _) => Some(waiting),
-        (Next::Lacks(missing), Some(waiting)) => Some(waiting.with_missing(missing)),
-        (Next::Lacks(_), None) => None,
+        slots[place] = next.slot_after(slots[place].take());
     }
 }
 

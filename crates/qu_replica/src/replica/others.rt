@@ -1,8 +1,8 @@
-ghost use Rattle.std.specs.Prelude.{◌≡◌, false, IfOk};
+ghost use Rattle.std.specs.Prelude.{◌≡◌, false, Some, IfOk};
 ghost use Rattle.qu_base.specs.declared.party.Party.TheVariants as party;
 ghost use Rattle.qu_frames.specs.Decoding.{decoded};
 ghost use Rattle.qu_frames.specs.Reading.{is_request};
-ghost use Rattle.qu_frames.specs.Signing.{signed};
+ghost use Rattle.qu_frames.specs.Signing.{brought, signed};
 ghost use Rattle.qu_versions.specs.Versions.{version_at};
 ghost use Rattle.qu_rows.specs.State.{AreHistories};
 ghost use Rattle.qu_replica.specs.State.{with_gain};
@@ -27,25 +27,37 @@ impl Replica {
     {
         are_bytes(text);
         match receive(self.alloc, &self.keys, Party::Replica(self.me), text)? {
-            Some(
-                Frame::Fetch {
-                    replica,
-                    object,
-                    stamp,
-                    ..
-                },
-            ) => self.plan_letters(self.version_letters(replica, object, &stamp)?),
-            Some(
-                Frame::Fetched {
-                    replica,
-                    object,
-                    stamp,
-                    state,
-                    ..
-                },
-            ) => self.plan_fetched(replica, object, stamp, state),
-            Some(Frame::Request { .. }) => unreachable!(),
-            Some(Frame::Reply { .. }) | None => self.plan_letters(List::new(self.alloc)),
+            Some(frame) => self.plan_brought(&frame, text),
+            None => self.plan_letters(List::new(self.alloc)),
+        }
+    }
+
+    /// What `step` will make of a frame that a text brings, which is no request.
+    fn plan_brought(&self, frame: &Frame, text: &[u8]) -> Result<Planned, NoMemory>
+        requires none { is_request (decoded text.now) ≡ false }
+        requires brought { brought self.now.keys (party.Replica self.now.me) text.now ≡ Some frame.now }
+        ensures state { IfOk result (λ planned. with_gain self.now planned.gain
+            ≡ (replica_step self.now text.now).0) }
+        ensures letters { IfOk result (λ planned. planned.letters ≡ (replica_step self.now text.now).1) }
+        ensures may { IfOk result (λ planned. MayGain self.now planned.gain) }
+        ensures histories { AreHistories self.now }
+    {
+        match frame {
+            Frame::Fetch {
+                replica,
+                object,
+                stamp,
+                ..
+            } => self.plan_letters(self.version_letters(*replica, *object, stamp)?),
+            Frame::Fetched {
+                replica,
+                object,
+                stamp,
+                state,
+                ..
+            } => self.plan_fetched(*replica, *object, *stamp, state.copy(self.alloc)?),
+            Frame::Request { .. } => unreachable!(),
+            Frame::Reply { .. } => self.plan_letters(List::new(self.alloc)),
         }
     }
 

@@ -15,8 +15,8 @@ returns-then-place-slots c =
     let got : slice_get slots c.from-place.result ≡ Some c.take.result =
     slice_get-get_or slots c.from-place.result c.index-slots-place.result below
     ∙ ap Some (sym c.take.ensures.value) in
-    set_over slots c.from-place.result c.take.new.self c.next_slot.result
+    set_over slots c.from-place.result c.take.new.self c.slot_after.result
     ∙ ap (set slots c.from-place.result)
-    (c.next_slot.ensures
+    (c.slot_after.ensures
     ∙ ap (λ (it : Option (Option Waiting)). next_slot c.args.turn.next (unwrap_or it None)) (sym got))
     ∙ ap (λ (at : ℕ). set slots at (next_slot c.args.turn.next (unwrap_or (slice_get slots at) None))) place
