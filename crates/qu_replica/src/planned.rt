@@ -138,29 +138,9 @@ impl Gain {
 }
 
 /// What a step of a replica will make. To carry it out takes no memory.
-#[derive(Debug)]
+#[derive(Debug, Drop)]
 pub struct Planned {
     /// What the replica's state gains.
     pub gain: Gain,
     pub letters: List<Letter>,
-}
-
-/// By hand, so that a value is let go in one step wherever that is.
-impl Drop for Planned {
-    fn drop(self) {
-        let Planned {
-            gain: _,
-            letters: _,
-        } = self;
-    }
-}
-
-impl Planned {
-    /// What the state gains, and the letters.
-    pub(crate) fn into_parts(self) -> (Gain, List<Letter>)
-        ensures { result ≡ (self.gain, self.letters) }
-    {
-        let Planned { gain, letters } = self;
-        (gain, letters)
-    }
 }

@@ -88,29 +88,10 @@ impl Model for Replica {
 }
 
 /// What a replica makes of a request: the entries that its reply names, and its decision.
+#[derive(Drop)]
 struct Handled {
     named: List<(ObjectId, ReplicaId)>,
     decision: Decision,
-}
-
-/// By hand, so that a value is let go in one step wherever that is.
-impl Drop for Handled {
-    fn drop(self) {
-        let Handled {
-            named: _,
-            decision: _,
-        } = self;
-    }
-}
-
-impl Handled {
-    /// The entries that are named, and the decision.
-    fn into_parts(self) -> (List<(ObjectId, ReplicaId)>, Decision)
-        ensures { result ≡ (self.named, self.decision) }
-    {
-        let Handled { named, decision } = self;
-        (named, decision)
-    }
 }
 
 impl Replica {
@@ -225,7 +206,7 @@ impl Replica {
         if !reading.is_brought(&self.keys, Party::Replica(self.me), text) {
             return self.plan_letters(List::new(self.alloc));
         }
-        let (named, decision) = self.handle(&self.rows(None), reading)?.into_parts();
+        let Handled { named, decision } = self.handle(&self.rows(None), reading)?;
         match decision {
             Decision::Answers { verdict, accepted } => {
                 let gain = Gain::nothing(self.alloc);
@@ -241,7 +222,7 @@ impl Replica {
         ensures state { self.new ≡ with_gain self.old planned.gain }
         ensures letters { result ≡ planned.letters }
     {
-        let (gain, letters) = planned.into_parts();
+        let Planned { gain, letters } = planned;
         self.take(gain);
         letters
     }

@@ -47,9 +47,11 @@ impl Replica {
         ensures may { IfOk result (λ planned. MayGain self.now planned.gain) }
     {
         let gain = Gain::nothing(self.alloc);
-        let (gain, letters) = self
-            .plan_fetches(gain, self.fetching.as_slice(), missing.as_slice())?
-            .into_parts();
+        let Planned { gain, letters } = self.plan_fetches(
+            gain,
+            self.fetching.as_slice(),
+            missing.as_slice(),
+        )?;
         let client = reading.client();
         let me = Party::Replica(self.me);
         let waiting = Waiting::new(self.alloc, &self.keys, me, text, reading, missing)?;
@@ -228,7 +230,7 @@ impl Replica {
         ensures letters { IfOk result (λ planned. planned.letters ≡ []) }
         ensures may { IfOk result (λ planned. MayGain self.now planned.gain) }
     {
-        let (gain, letters) = self.plan_letters(List::new(self.alloc))?.into_parts();
+        let Planned { gain, letters } = self.plan_letters(List::new(self.alloc))?;
         Ok(Planned {
             gain: gain.with_fetching(fetching),
             letters,
@@ -290,7 +292,7 @@ impl Replica {
         let reading = &waiting.reading;
         let client = reading.client();
         let more = unless_held(held, &found);
-        let (named, decision) = self.handle(&self.rows(more), reading)?.into_parts();
+        let Handled { named, decision } = self.handle(&self.rows(more), reading)?;
         let gain = gain_found(self.alloc, found, held)?;
         match decision {
             Decision::Answers { verdict, accepted } => {
@@ -300,9 +302,11 @@ impl Replica {
                 self.plan_answer(gain, reading, named, verdict, accepted.as_slice())
             }
             Decision::Waits { missing } => {
-                let (gain, letters) = self
-                    .plan_fetches(gain, fetching.as_slice(), missing.as_slice())?
-                    .into_parts();
+                let Planned { gain, letters } = self.plan_fetches(
+                    gain,
+                    fetching.as_slice(),
+                    missing.as_slice(),
+                )?;
                 Ok(Planned {
                     gain: gain.with_turn(client, Next::Lacks(missing)),
                     letters,

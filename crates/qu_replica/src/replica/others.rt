@@ -25,7 +25,6 @@ impl Replica {
         ensures may { IfOk result (λ planned. MayGain self.now planned.gain) }
         ensures histories { AreHistories self.now }
     {
-        are_bytes(text);
         match receive(self.alloc, &self.keys, Party::Replica(self.me), text)? {
             Some(frame) => self.plan_brought(&frame, text),
             None => self.plan_letters(List::new(self.alloc)),
@@ -42,6 +41,7 @@ impl Replica {
         ensures may { IfOk result (λ planned. MayGain self.now planned.gain) }
         ensures histories { AreHistories self.now }
     {
+        are_bytes(text);
         match frame {
             Frame::Fetch {
                 replica,
