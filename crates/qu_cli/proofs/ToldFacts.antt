@@ -45,8 +45,8 @@ whole_ends asked source source' sink sink' report command trace text asks answer
   torn = (λ some. absurd (let none = rw untorn at some in cc), λ other. absurd (omega (arith, is, other)));
   refused = report_refused asked source source' sink sink' report.status command trace text asks answers;
   complete =
-      report_complete asked source source' sink sink' report.trace report.status command trace text asks answers tells is
-      writes;
+      report_complete asked source source' sink sink' report.trace report.status command trace text asks answers tells
+      is writes;
 }
 
 -- and one that a fault leaves short
