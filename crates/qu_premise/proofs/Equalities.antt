@@ -1,20 +1,18 @@
 -- What the tests for equal parties, texts, HMACs and histories decide.
-use Rattle.std.proofs.Common.{◌≡◌, ℕ, true, List, Option, None, Some, refl, ap, ◌∙◌}
+use Rattle.std.proofs.Common.{◌≡◌, ℕ, true, List, Option, None, Some, refl, ap}
 use Rattle.std.specs.Prelude.{◌==◌, ◌&&◌, nat_eq}
 use Rattle.std.specs.Bool.{Decides}
 use Rattle.std.specs.Cmp.Lexicographic.{pointwise, bytes_decides}
 use Rattle.std.proofs.lemmas.Bool.{false≢true, and_parts, and_from}
 use Rattle.std.proofs.lemmas.Bool.Decides.{Decides-eqb}
-use Rattle.std.proofs.lemmas.Slice.Eq.{slice_eq-Decides}
 use Rattle.qu_base.specs.declared.party.ClientId.{ClientId}
 use Rattle.qu_base.specs.declared.party.Digest.{Digest}
 use Rattle.qu_base.specs.declared.party.Party.{Party}
 use Rattle.qu_base.specs.declared.party.Party.TheVariants as party
 use Rattle.qu_base.specs.declared.party.ReplicaId.{ReplicaId}
-use Rattle.qu_stamp.specs.declared.candidate.Candidate.{Candidate}
 use Rattle.qu_stamp.specs.Candidate.{same}
 use Rattle.qu_stamp.specs.Stamp.{same_digest}
-use Rattle.qu_stamp.proofs.Order.{same-self, equal_by_same}
+use Rattle.qu_stamp.proofs.Order.{decides_candidates}
 use Rattle.qu_history.specs.History.{ObjectHistory}
 use Rattle.qu_trace.specs.Faulty.{is_same}
 use Rattle.qu_claims.specs.Digested.{Text}
@@ -39,12 +37,6 @@ decides_mac None None = (λ same. refl, λ same. refl)
 decides_mac None (Some b) = (λ same. absurd (false≢true same), λ same. absurd (cc))
 decides_mac (Some a) None = (λ same. absurd (false≢true same), λ same. absurd (cc))
 decides_mac (Some a) (Some b) = (λ same. ap Some ((bytes_decides a b).0 same), λ same. (bytes_decides a b).1 (cc))
-
-decides_candidate : (a b : Candidate) → Decides (same a b) (a ≡ b)
-decides_candidate a b = (equal_by_same a b, λ equal. ap (λ (it : Candidate). same a it) (cc) ∙ same-self a)
-
-decides_candidates : (a b : List Candidate) → Decides (pointwise same a b) (a ≡ b)
-decides_candidates a b = slice_eq-Decides decides_candidate a b (pointwise same a b) refl
 
 pub decides_history : (a b : ObjectHistory) → Decides (same_history a b) (a ≡ b)
 decides_history a b = (

@@ -3,7 +3,9 @@
 
 mod planned;
 mod replica;
+mod seals;
 mod versions;
 
 pub use planned::{Gain, Planned};
 pub use replica::Replica;
+pub use seals::Seal;

@@ -1,5 +1,6 @@
 ghost use Rattle.std.specs.Prelude.{◌≡◌, [], None, Some};
 
+use crate::seals::Seal;
 use qu_base::{ClientId, List};
 use qu_frames::Letter;
 use qu_history::History;
@@ -143,4 +144,6 @@ pub struct Planned {
     /// What the replica's state gains.
     pub gain: Gain,
     pub letters: List<Letter>,
+    /// What was sealed anew, to be kept.
+    pub seals: List<Seal>,
 }

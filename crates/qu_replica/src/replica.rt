@@ -23,6 +23,7 @@ mod others;
 mod reply;
 
 use crate::planned::{Gain, Planned};
+use crate::seals::{Seal, keep_seals, no_seals};
 use qu_base::{Bounds, Digest, List, NoMemory, ObjectId, Party, ReplicaId};
 use qu_frames::{Letter, Reading};
 use qu_history::{Culled, History, Sets};
@@ -48,6 +49,8 @@ pub struct Replica {
     /// The waiting request of each client, in slots by the numbers of the clients.
     waiting: Vec<Option<Waiting>>,
     fetching: List<Running>,
+    /// Of each object the history that was sealed last.
+    seals: Vec<Option<Seal>>,
 }
 
 /// By hand, so that a value is let go in one step wherever that is.
@@ -62,6 +65,7 @@ impl Drop for Replica {
             versions: _,
             waiting: _,
             fetching: _,
+            seals: _,
         } = self;
     }
 }
@@ -119,6 +123,7 @@ impl Replica {
             versions: VersionStore::fresh(alloc, kinds)?,
             waiting: empty_slots(alloc)?,
             fetching: List::new(alloc),
+            seals: no_seals(alloc, kinds.len())?,
         })
     }
 
@@ -222,8 +227,13 @@ impl Replica {
         ensures state { self.new ≡ with_gain self.old planned.gain }
         ensures letters { result ≡ planned.letters }
     {
-        let Planned { gain, letters } = planned;
+        let Planned {
+            gain,
+            letters,
+            seals,
+        } = planned;
         self.take(gain);
+        keep_seals(&mut self.seals, seals);
         letters
     }
 

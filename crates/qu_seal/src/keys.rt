@@ -19,6 +19,24 @@ pub struct KeyRing {
     replicas: [[u8; 32]; PLACES],
 }
 
+/// Which ring it is: rings with one name have the same keys of the same parties.
+#[derive(Clone, Copy, PartialEq, Eq)]
+pub struct RingName {
+    seed: u64,
+    bounds: Bounds,
+    clients: u16,
+}
+
+impl Model for RingName {
+    ghost use Rattle.qu_seal.specs.Keys.{Ring};
+
+    ghost Value = { Ring };
+
+    ghost view = { λ name. record { seed = name.seed; bounds = name.bounds; clients = name.clients } };
+
+    ghost inverse = { λ ring. record { seed = ring.seed; bounds = ring.bounds; clients = ring.clients } };
+}
+
 /// So many replicas there may be.
 const SIDE: usize = 16;
 
@@ -57,6 +75,17 @@ impl KeyRing {
             bounds: *bounds,
             clients,
             replicas: replica_keys(seed),
+        }
+    }
+
+    /// Its name, without its keys.
+    pub fn name(&self) -> RingName
+        ensures { result ≡ self.now }
+    {
+        RingName {
+            seed: self.seed,
+            bounds: self.bounds,
+            clients: self.clients,
         }
     }
 

@@ -12,4 +12,4 @@ pub use constants::{
     ACT_TAG, BLOCK, FRAME_TAG, HISTORY_TAG, IPAD, OPAD, SETS_TAG, constants_are_these,
 };
 pub use digesting::digest;
-pub use keys::KeyRing;
+pub use keys::{KeyRing, RingName};

@@ -8,13 +8,14 @@ use Rattle.std.specs.Ordering.{nat_cmp, bool_cmp, ordering_then, is_lt, is_eq}
 use Rattle.std.specs.List.{repeat}
 use Rattle.std.specs.Option.{option_cmp, option_eq}
 use Rattle.std.specs.Cmp.{IsTotalOrder, bool_cmp_total}
-use Rattle.std.specs.Cmp.Lexicographic.{slice_cmp, options_total, bytes_decides}
+use Rattle.std.specs.Cmp.Lexicographic.{slice_cmp, options_total, bytes_decides, pointwise}
 use Rattle.std.proofs.lemmas.Cmp.{nat_cmp_total, lists_total, on_total, then_total, tied_itself}
 use Rattle.std.proofs.lemmas.Map.Lookups.{CmpEqualImpliesEq, exact_unsigned, exact_bytes}
 use Rattle.std.specs.Bool.{Decides}
 use Rattle.std.specs.Cmp.{booleans_Decides}
 use Rattle.std.proofs.lemmas.Bool.{false≢true, cases_Bool, or_left, and_parts, and_from, eq-eqb, eqb-true}
 use Rattle.std.proofs.lemmas.Bool.Decides.{nat_tests}
+use Rattle.std.proofs.lemmas.Slice.Eq.{slice_eq-Decides}
 use Rattle.qu_base.specs.declared.party.Digest.{Digest}
 use Rattle.qu_base.specs.declared.party.ObjectId.{ObjectId}
 use Rattle.qu_stamp.proofs.Below.{both_equal, is_Equal, lt_then, eq_then, lt-self, lt-chain, lt-not_back, lt-other, lt-not_chain}
@@ -344,3 +345,9 @@ equal_by_same a b alike =
     let priors = equal_by_same_stamp a.prior b.prior prior.0 in
     let groups = (decides_group a.group b.group).0 prior.1 in
     λ i. record { stamp = stamps i; prior = priors i; group = groups i }
+
+decides_candidate : (a b : Candidate) → Decides (same a b) (a ≡ b)
+decides_candidate a b = (equal_by_same a b, λ equal. ap (λ (it : Candidate). same a it) (cc) ∙ same-self a)
+
+pub decides_candidates : (a b : List Candidate) → Decides (pointwise same a b) (a ≡ b)
+decides_candidates a b = slice_eq-Decides decides_candidate a b (pointwise same a b) refl

@@ -47,17 +47,18 @@ impl Replica {
         ensures may { IfOk result (λ planned. MayGain self.now planned.gain) }
     {
         let gain = Gain::nothing(self.alloc);
-        let Planned { gain, letters } = self.plan_fetches(
+        let Planned {
             gain,
-            self.fetching.as_slice(),
-            missing.as_slice(),
-        )?;
+            letters,
+            seals,
+        } = self.plan_fetches(gain, self.fetching.as_slice(), missing.as_slice())?;
         let client = reading.client();
         let me = Party::Replica(self.me);
         let waiting = Waiting::new(self.alloc, &self.keys, me, text, reading, missing)?;
         Ok(Planned {
             gain: gain.with_turn(client, Next::Waits(waiting)),
             letters,
+            seals,
         })
     }
 
@@ -79,7 +80,11 @@ impl Replica {
     {
         let (fetching, letters) = self.asked(fetching, missing)?;
         let gain = self.with_room(gain.with_fetching(fetching))?;
-        Ok(Planned { gain, letters })
+        Ok(Planned {
+            gain,
+            letters,
+            seals: List::new(self.alloc),
+        })
     }
 
     /// These fetches with those of the missing versions, and the letters that ask each other replica for them.
@@ -230,10 +235,15 @@ impl Replica {
         ensures letters { IfOk result (λ planned. planned.letters ≡ []) }
         ensures may { IfOk result (λ planned. MayGain self.now planned.gain) }
     {
-        let Planned { gain, letters } = self.plan_letters(List::new(self.alloc))?;
+        let Planned {
+            gain,
+            letters,
+            seals,
+        } = self.plan_letters(List::new(self.alloc))?;
         Ok(Planned {
             gain: gain.with_fetching(fetching),
             letters,
+            seals,
         })
     }
 
@@ -266,6 +276,7 @@ impl Replica {
                 Ok(Planned {
                     gain: self.with_room(gain)?,
                     letters: List::new(self.alloc),
+                    seals: List::new(self.alloc),
                 })
             }
             Some(waiting) => self.plan_woken(waiting, found, held, fetching),
@@ -302,14 +313,15 @@ impl Replica {
                 self.plan_answer(gain, reading, named, verdict, accepted.as_slice())
             }
             Decision::Waits { missing } => {
-                let Planned { gain, letters } = self.plan_fetches(
+                let Planned {
                     gain,
-                    fetching.as_slice(),
-                    missing.as_slice(),
-                )?;
+                    letters,
+                    seals,
+                } = self.plan_fetches(gain, fetching.as_slice(), missing.as_slice())?;
                 Ok(Planned {
                     gain: gain.with_turn(client, Next::Lacks(missing)),
                     letters,
+                    seals,
                 })
             }
         }

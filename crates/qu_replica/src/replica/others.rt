@@ -69,7 +69,11 @@ impl Replica {
         ensures histories { AreHistories self.now }
     {
         let gain = self.with_room(Gain::nothing(self.alloc))?;
-        Ok(Planned { gain, letters })
+        Ok(Planned {
+            gain,
+            letters,
+            seals: List::new(self.alloc),
+        })
     }
 
     /// The letter with a version for the replica that fetches it, where the version is held.

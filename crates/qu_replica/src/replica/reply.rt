@@ -1,6 +1,8 @@
-ghost use Rattle.std.specs.Prelude.{◌≡◌, ◌<◌, ◌≤◌, [], ◌∷◌, ◌++◌, length, map, slice_get, Some, IfOk, OnOk};
+ghost use Rattle.std.specs.Prelude.{◌≡◌, ◌<◌, ◌≤◌, [], ◌∷◌, ◌++◌, length, map, slice_get, Some, IfOk, IfSome, OnOk};
 ghost use Rattle.std.specs.List.{AllByRecursion};
 ghost use Rattle.std.specs.Option.{option_copied};
+ghost use Rattle.qu_seal.specs.Keys.{authenticator_of};
+ghost use Rattle.qu_history.specs.Culling.{history_digest};
 ghost use Rattle.qu_history.specs.Sealing.{sealed_by};
 ghost use Rattle.qu_fitting.specs.Holding.{accept, accept_all, accepted_of, stored_all};
 ghost use Rattle.qu_fitting.specs.Holding.{with_histories};
@@ -14,6 +16,7 @@ ghost use Rattle.qu_waiting.specs.Slots.{AreSlots, TurnFits};
 
 use super::Replica;
 use crate::planned::{Gain, Planned};
+use crate::seals::Seal;
 use crate::versions;
 use qu_base::{List, NoMemory, ObjectId, Party, ReplicaId};
 use qu_frames::{Frame, Letter, Reading, Verdict, blank_mac};
@@ -42,9 +45,11 @@ impl Replica {
             reading.now.client reading.now.number reading.now.round reading.now.sets verdict ∷ []) }
         ensures may { IfOk result (λ planned. MayGain self.now planned.gain) }
     {
+        let mut seals = List::new(self.alloc);
         Ok(Planned {
-            letters: self.reply(reading, culled, verdict, accepted)?,
+            letters: self.reply(reading, culled, verdict, accepted, &mut seals)?,
             gain: self.accepted(gain, accepted)?,
+            seals,
         })
     }
 
@@ -114,6 +119,7 @@ impl Replica {
         culled: List<(ObjectId, ReplicaId)>,
         verdict: Verdict,
         accepted: &[Accepted],
+        seals: &mut List<Seal>,
     ) -> Result<List<Letter>, NoMemory>
         requires may { MayAcceptAll self.now accepted.now }
         requires named { culled ≡ named self.now reading.now.sets }
@@ -121,7 +127,7 @@ impl Replica {
             reading.now.number reading.now.round reading.now.sets verdict ∷ []) }
     {
         let to = Party::Client(reading.client());
-        let text = self.reply_text(reading, culled, verdict, accepted)?;
+        let text = self.reply_text(reading, culled, verdict, accepted, seals)?;
         List::one(
             self.alloc,
             Letter {
@@ -140,6 +146,7 @@ impl Replica {
         culled: List<(ObjectId, ReplicaId)>,
         verdict: Verdict,
         accepted: &[Accepted],
+        seals: &mut List<Seal>,
     ) -> Result<List<u8>, NoMemory>
         requires may { MayAcceptAll self.now accepted.now }
         requires named { culled ≡ named self.now reading.now.sets }
@@ -153,7 +160,7 @@ impl Replica {
             round: reading.round(),
             verdict,
             culled,
-            shown: self.shown(reading.sets().sets(), accepted)?,
+            shown: self.shown(reading.sets().sets(), accepted, seals)?,
             mac: blank_mac(),
         };
         frame.signed(self.alloc, &self.keys, Party::Client(reading.client()))
@@ -161,7 +168,12 @@ impl Replica {
 
     /// The sealed histories of the request's objects as they stand once these candidates are accepted.
     #[tactic(auto, using(crate::proofs::Requests::Showing::sealed_some, crate::proofs::Requests::Showing::sealed_none, crate::proofs::Requests::Showing::sealed_first))]
-    fn shown(&self, sets: &Sets, accepted: &[Accepted]) -> Result<List<Sealed>, NoMemory>
+    fn shown(
+        &self,
+        sets: &Sets,
+        accepted: &[Accepted],
+        seals: &mut List<Seal>,
+    ) -> Result<List<Sealed>, NoMemory>
         requires { MayAcceptAll self.now accepted.now }
         ensures { IfOk result
             (λ histories. histories ≡ map (sealed_by self.now.keys)
@@ -170,10 +182,34 @@ impl Replica {
         let mut histories = List::new(self.alloc);
         for set in sets.objects().as_slice() {
             if let Some(history) = self.history_after(set.object, accepted)? {
-                histories.push(history.sealed(self.alloc, &self.keys)?)?;
+                histories.push(self.sealed(history, seals)?)?;
             }
         }
         Ok(histories)
+    }
+
+    /// A history with the HMACs that this replica makes. Where it sealed another one of the object last, they are made
+    /// anew, and the seal is put behind the others.
+    fn sealed(&self, history: History, seals: &mut List<Seal>) -> Result<Sealed, NoMemory>
+        ensures { IfOk result (λ sealed. sealed ≡ sealed_by self.now.keys history) }
+    {
+        if let Some(macs) = self.macs_kept(&history)? {
+            return Ok(Sealed { history, macs });
+        }
+        let sealed = history.sealed(self.alloc, &self.keys)?;
+        seals.push(Seal::of(self.alloc, &self.keys, &sealed)?)?;
+        Ok(sealed)
+    }
+
+    /// The HMACs of a history that it sealed last of its object.
+    fn macs_kept(&self, history: &History) -> Result<Option<List<[u8; 32]>>, NoMemory>
+        ensures { IfOk result (λ found. IfSome found (λ macs. macs
+            ≡ authenticator_of self.now.keys history.now.replica (history_digest history.now))) }
+    {
+        match self.seals.get(usize::from(history.object().0)) {
+            Some(Some(seal)) => seal.macs_of(self.alloc, &self.keys, history),
+            Some(None) | None => Ok(None),
+        }
     }
 
     /// The history of an object as it stands once these candidates are accepted.

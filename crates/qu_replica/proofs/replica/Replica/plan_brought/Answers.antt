@@ -29,8 +29,8 @@ plan_fetched-requires c =
     sender-fits state.keys (party.Replica state.me) c.args.text.now it.replica it.object it.stamp
     version.field-0 it.mac c.are_bytes.ensures brings
 
-pub returns-in-Fetched-clause-state : goal.returns-in-Fetched-clause-state
-returns-in-Fetched-clause-state c =
+pub returns-in_ok-copy-in-Fetched-clause-state : goal.returns-in_ok-copy-in-Fetched-clause-state
+returns-in_ok-copy-in-Fetched-clause-state c =
     let it = c.in-Fetched in
     let state : ReplicaState = c.args.self.now in
     let version = c.in_ok-copy-in-Fetched in
@@ -45,8 +45,8 @@ returns-in-Fetched-clause-state c =
     (sym (step_of_frame state c.args.text.now sent brings)))
     (c.plan_fetched.ensures.state it.mac)
 
-pub returns-in-Fetched-clause-letters : goal.returns-in-Fetched-clause-letters
-returns-in-Fetched-clause-letters c =
+pub returns-in_ok-copy-in-Fetched-clause-letters : goal.returns-in_ok-copy-in-Fetched-clause-letters
+returns-in_ok-copy-in-Fetched-clause-letters c =
     let it = c.in-Fetched in
     let state : ReplicaState = c.args.self.now in
     let version = c.in_ok-copy-in-Fetched in
