@@ -50,7 +50,7 @@ fn step<R: Wait>(
 ) -> Result<(), NoMemory> {
     let mut state = post.lock(rt);
     let input = match state.take(actor) {
-        Some((name, letter)) => Input::Frame(name, letter.text),
+        Some((name, letter)) => Input::Frame(name, letter.into_text()),
         None => {
             state.begin();
             Input::Tick
