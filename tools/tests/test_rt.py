@@ -1,9 +1,11 @@
 """That `tools/rt` answers of a crate what `rt` itself answers, each crate below it asked once."""
 import os
 import shutil
+import tempfile
 import unittest
 from importlib.machinery import SourceFileLoader
 from importlib.util import module_from_spec, spec_from_loader
+from types import SimpleNamespace
 
 TOP = os.path.dirname(os.path.dirname(os.path.dirname(os.path.realpath(__file__))))
 
@@ -30,6 +32,31 @@ class Node:
     def stamp(self):
         self.reads += 1
         return f"{self.folder}({' '.join(dep.stamp() for dep in self.deps)})"
+
+
+class Library(Node):
+    """A crate of this text, which counts how often it is proved."""
+
+    def __init__(self, top, name, deps):
+        super().__init__(name, deps)
+        self.rlib, self.text, self.proofs = os.path.join(top, name, "rlib", f"{name}.rlib"), "", 0
+
+    def stamp(self):
+        return f"{self.text}({' '.join(dep.stamp() for dep in self.deps)})"
+
+    def build_rlib(self, flags, anew):
+        shutil.rmtree(os.path.dirname(self.rlib), ignore_errors=True)
+        os.makedirs(self.rlib)
+        self.proofs += 1
+        return 0
+
+
+def text_of(file):
+    try:
+        with open(file, encoding="utf-8") as it:
+            return it.read()
+    except OSError:
+        return None
 
 
 def ladder(rungs):
@@ -68,6 +95,34 @@ class Rt(unittest.TestCase):
         self.assertEqual([it.reads for it in crates], [1] * 13 + [0] * 27)
         crates[12].stamp()
         self.assertEqual([it.reads for it in crates], [2] * 13 + [0] * 27)
+
+    def test_each_text_is_read_once_a_run_but_that_of_the_folder(self):
+        self.keep()
+        crates = ladder(13)
+        Node.stamp = self.tool.once_a_run(Node.stamp, "c12")
+        self.assertEqual(crates[12].stamp(), crates[12].stamp())
+        crates[7].stamp()
+        self.assertEqual([it.reads for it in crates], [1] * 12 + [2])
+
+    def test_a_library_of_statements_fits_those_below_it_as_they_were_built(self):
+        with tempfile.TemporaryDirectory() as top:
+            kind = type("Built", (Library,), {})
+            self.tool.use_statements(SimpleNamespace(Crate=kind, text_of=text_of))
+            low = kind(top, "low", [])
+            high = kind(top, "high", [low])
+            both = [low, high]
+            self.assertEqual([it.is_built() for it in both], [False, False])
+            self.assertEqual([it.build_rlib([], False) for it in both + both], [0, 0, 0, 0])
+            self.assertEqual([it.proofs for it in both], [1, 1])
+            high.text = "changed"
+            self.assertEqual([it.is_built() for it in both], [True, False])
+            high.build_rlib([], False)
+            low.text = "changed"
+            low.build_rlib([], False)
+            low.text = ""
+            low.build_rlib([], False)
+            self.assertEqual([it.is_built() for it in both], [True, False])
+            self.assertEqual([it.proofs for it in both], [3, 2])
 
     @unittest.skipIf(shutil.which("rt") is None, "there is no rt on the path")
     def test_rt_itself_is_one(self):

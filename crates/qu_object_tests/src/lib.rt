@@ -1,11 +1,13 @@
-//! Tests of the crates of objects, histories and frames over their public calls, of what no clause says. A file is
-//! named for the crate that it tests.
+//! Tests of the crates of objects, histories and frames, and of clients and replicas, over their public calls, of what
+//! no clause and no stored case says. A file is named for what it tests.
 #![tactic(auto)]
 
 #[cfg(test)]
 mod adversary;
 #[cfg(test)]
 mod class;
+#[cfg(test)]
+mod client;
 #[cfg(test)]
 mod facts;
 #[cfg(test)]
@@ -19,11 +21,19 @@ mod machine;
 #[cfg(test)]
 mod members;
 #[cfg(test)]
+mod needed;
+#[cfg(test)]
+mod needing;
+#[cfg(test)]
 mod random_class;
 #[cfg(test)]
 mod random_members;
 #[cfg(test)]
 mod random_sets;
+#[cfg(test)]
+mod replica;
+#[cfg(test)]
+mod rows;
 #[cfg(test)]
 mod slow_class;
 #[cfg(test)]

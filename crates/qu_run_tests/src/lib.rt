@@ -1,11 +1,9 @@
-//! Tests of clients, replicas, locks, threads, runs, their scripts and their texts, and of the calls that programs
-//! make, over their public calls, of what no clause and no stored case says. A file is named for what it tests.
+//! Tests of locks, threads, runs, their scripts and their texts, and of the calls that programs make, over their public
+//! calls, of what no clause and no stored case says. A file is named for what it tests.
 #![tactic(auto)]
 
 #[cfg(test)]
 mod cli;
-#[cfg(test)]
-mod client;
 #[cfg(test)]
 mod hints;
 #[cfg(test)]
@@ -15,16 +13,8 @@ mod live;
 #[cfg(test)]
 mod lock;
 #[cfg(test)]
-mod needed;
-#[cfg(test)]
-mod needing;
-#[cfg(test)]
 mod print;
 #[cfg(test)]
 mod quick;
-#[cfg(test)]
-mod replica;
-#[cfg(test)]
-mod rows;
 #[cfg(test)]
 mod threads;
