@@ -29,12 +29,23 @@ fn is_in_round(client: &Client, round: u8) -> bool {
         && !client.rests()
 }
 
-/// The client begins to read, and a tick ends the round.
-fn reads(alloc: Global, client: &mut Client) -> Result<(), Fail> {
+/// A client that never asked begins to read.
+fn begin(alloc: Global, client: &mut Client) -> Result<(), Fail> {
     holds(client.last_request().is_none(), "no request yet")?;
     client.invoke(read(alloc)?)?;
-    holds(is_in_round(client, 1), "its first round")?;
+    Ok(())
+}
+
+fn tick(client: &mut Client) -> Result<(), Fail> {
     client.tick()?;
+    Ok(())
+}
+
+/// The client begins to read, and a tick ends the round.
+fn reads(alloc: Global, client: &mut Client) -> Result<(), Fail> {
+    begin(alloc, client)?;
+    holds(is_in_round(client, 1), "its first round")?;
+    tick(client)?;
     holds(is_in_round(client, 2), "its second round")
 }
 
@@ -46,6 +57,6 @@ fn a_client_tells_its_round(rt: HostRuntime) -> Result<(), Fail> {
 #[test]
 fn a_tick_of_an_idle_client_makes_nothing(rt: HostRuntime) -> Result<(), Fail> {
     let mut client = started(rt.alloc())?;
-    client.tick()?;
+    tick(&mut client)?;
     holds(is_idle(&client), "nothing under way")
 }

@@ -90,22 +90,36 @@ fn own(alloc: Global, count: usize) -> Result<History, Fail> {
     Ok(history)
 }
 
-/// What a replica with this history makes of the request, which has the wanted version or not.
-fn outcome(alloc: Global, mend: &Mend, own: &History, found: bool) -> Result<Seen, Fail> {
-    let version = ObjState {
+/// A version with the number 7.
+fn counted(alloc: Global) -> ObjState {
+    ObjState {
         value: Value::Counter(Counter::new(7)),
         kept: List::new(alloc),
         links: List::new(alloc),
-    };
-    let part = Part {
-        object: OBJECT,
+    }
+}
+
+/// An object of the request, of which a replica has this history, and this version or not.
+fn part<'a>(
+    object: ObjectId,
+    mend: &Mend,
+    (own, found): (&'a History, bool),
+    version: &'a ObjState,
+) -> Part<'a> {
+    Part {
+        object,
         latest: mend.latest,
         remedy: mend.remedy,
         own: Some(own),
-        version: if found { Some(&version) } else { None },
-    };
-    let parts = List::one(alloc, part)?;
-    match mend.decide(alloc, parts.as_slice())? {
+        version: if found { Some(version) } else { None },
+    }
+}
+
+/// What a replica with this history makes of the request, which has the wanted version or not.
+fn outcome(alloc: Global, mend: &Mend, own: &History, found: bool) -> Result<Seen, Fail> {
+    let version = counted(alloc);
+    let parts = [part(OBJECT, mend, (own, found), &version)];
+    match mend.decide(alloc, &parts)? {
         Mending::Mends { accepted, .. } => adds(accepted.as_slice()),
         Mending::Holds { stamp } => Ok(Seen::Holds(stamp)),
         Mending::Refuses(why) => Ok(Seen::Refuses(why)),
@@ -277,34 +291,26 @@ fn joined(time: u64) -> Result<Candidate, Fail> {
 
 /// What a replica makes of a request to add the candidate of time 3 to both objects. Of each it has so many candidates,
 /// and the version or not.
-fn of_two(
+fn of_two(alloc: Global, first: (usize, bool), second: (usize, bool)) -> Result<Mending, Fail> {
+    let lower = own(alloc, first.0)?;
+    let higher = own(alloc, second.0)?;
+    decided(alloc, (&lower, first.1), (&higher, second.1))
+}
+
+/// The same, with these histories.
+fn decided(
     alloc: Global,
-    (first, first_found): (usize, bool),
-    (second, second_found): (usize, bool),
+    lower: (&History, bool),
+    higher: (&History, bool),
 ) -> Result<Mending, Fail> {
-    let version = ObjState {
-        value: Value::Counter(Counter::new(7)),
-        kept: List::new(alloc),
-        links: List::new(alloc),
-    };
     let candidate = joined(3)?;
-    let remedy = Remedy::Shown(candidate);
-    let mend = mend(alloc, remedy, 3, Group::none())?;
-    let (lower, higher) = (own(alloc, first)?, own(alloc, second)?);
-    let mut parts = List::new(alloc);
-    for (object, own, found) in [
-        (OBJECT, &lower, first_found),
-        (OTHER, &higher, second_found),
-    ] {
-        parts.push(Part {
-            object,
-            latest: candidate.stamp,
-            remedy,
-            own: Some(own),
-            version: if found { Some(&version) } else { None },
-        })?;
-    }
-    Ok(mend.decide(alloc, parts.as_slice())?)
+    let mend = mend(alloc, Remedy::Shown(candidate), 3, Group::none())?;
+    let version = counted(alloc);
+    let parts = [
+        part(OBJECT, &mend, lower, &version),
+        part(OTHER, &mend, higher, &version),
+    ];
+    Ok(mend.decide(alloc, &parts)?)
 }
 
 #[test]
@@ -373,17 +379,11 @@ fn copied(alloc: Global, first: &ObjState, second: &ObjState) -> Result<Mending,
     let made = joined(4)?.group;
     let mend = mend(alloc, copy(), 3, made)?;
     let own = own(alloc, 4)?;
-    let mut parts = List::new(alloc);
-    for (object, version) in [(OBJECT, first), (OTHER, second)] {
-        parts.push(Part {
-            object,
-            latest: mend.latest,
-            remedy: copy(),
-            own: Some(&own),
-            version: Some(version),
-        })?;
-    }
-    Ok(mend.decide(alloc, parts.as_slice())?)
+    let parts = [
+        part(OBJECT, &mend, (&own, true), first),
+        part(OTHER, &mend, (&own, true), second),
+    ];
+    Ok(mend.decide(alloc, &parts)?)
 }
 
 const THIRD: ObjectId = ObjectId(9);
