@@ -298,10 +298,10 @@ fn of_two(alloc: Global, first: (usize, bool), second: (usize, bool)) -> Result<
 }
 
 /// The same, with these histories.
-fn decided(
+fn decided<'a>(
     alloc: Global,
-    lower: (&History, bool),
-    higher: (&History, bool),
+    lower: (&'a History, bool),
+    higher: (&'a History, bool),
 ) -> Result<Mending, Fail> {
     let candidate = joined(3)?;
     let mend = mend(alloc, Remedy::Shown(candidate), 3, Group::none())?;
@@ -375,7 +375,7 @@ fn linked(alloc: Global, links: &[(ObjectId, Stamp)]) -> Result<ObjState, Fail> 
 }
 
 /// What a replica makes of a request to copy these versions on both objects, where the sets show nothing above time 3.
-fn copied(alloc: Global, first: &ObjState, second: &ObjState) -> Result<Mending, Fail> {
+fn copied<'a>(alloc: Global, first: &'a ObjState, second: &'a ObjState) -> Result<Mending, Fail> {
     let made = joined(4)?.group;
     let mend = mend(alloc, copy(), 3, made)?;
     let own = own(alloc, 4)?;
