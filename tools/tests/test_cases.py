@@ -67,7 +67,8 @@ class Cases(unittest.TestCase):
 
     def test_all_else_is_as_it_was_and_what_looks_for_its_place_is_copied(self):
         other = self.make_kit()
-        links = {name for name in os.listdir(os.path.join(other, "bin")) if os.path.islink(os.path.join(other, "bin", name))}
+        programs = os.path.join(other, "bin")
+        links = {name for name in os.listdir(programs) if os.path.islink(os.path.join(programs, name))}
         self.assertEqual(links, {"rattle"})
         self.assertEqual(sorted(os.listdir(other)), ["KIT-ID", "bin", "toolchain"])
         self.assertTrue(os.path.isfile(os.path.join(other, "toolchain", "lib", "libc.so.6")))
