@@ -1,4 +1,4 @@
--- What is ever established is an ancestor of all that is attested above it.
+-- Of candidates without barrier, what is ever established is an ancestor of all that is attested above it.
 use Rattle.std.proofs.Common.{◌≡◌, ◌⊎◌, ℕ, zero, suc, ◌+◌, ◌<◌, ◌≤◌, true, false, not, sym, ap, ◌∙◌, subst, arith, inl, inr}
 use Rattle.std.proofs.lemmas.Bool.{false≢true, cases_Bool, cases_eq}
 use Rattle.qu_base.specs.declared.party.ObjectId.{ObjectId}
@@ -186,7 +186,7 @@ chain_up_to setting laws (suc time) within earlier order =
       | inr other ↦ chain_up_to setting laws time (omega arith) earlier (omega arith)
     ]
 
--- what is ever established is an ancestor of all that is attested above it
+-- of candidates without barrier, what is ever established is an ancestor of all that is attested above it
 pub chain : (setting : Setting) → Laws setting → (time : ℕ) → time ≤ setting.last → ChainHolds setting time
 chain setting laws time within = chain_up_to setting laws time within time (omega arith)
 

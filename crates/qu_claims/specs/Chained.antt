@@ -1,5 +1,5 @@
--- What a run shows of each of its objects: what is established is never lost, it stays an ancestor of all that
--- comes above it (Query/Update: an established candidate is in the history of every later one).
+-- What a run shows of each of its objects: what is established without barrier is never lost, it stays an ancestor of
+-- all such that comes above it (Query/Update: an established candidate is in the history of every later one).
 use Rattle.std.specs.Prelude.{◌≡◌, true, length}
 use Rattle.qu_base.specs.declared.party.ObjectId.{ObjectId}
 use Rattle.qu_stamp.specs.declared.candidate.Candidate.{Candidate}
@@ -16,7 +16,7 @@ abbrev pub last_world : Trace → WorldState
 last_world trace = world_after trace (length trace.entries)
 
 pub record IsChained (trace : Trace) : Type 0 where
-  -- an established candidate is an ancestor of every attested one that is above it
+  -- of candidates without barrier, an established one is an ancestor of every attested one that is above it
   pub chain : ChainHolds (setting trace) (setting trace).last
   -- of two decided candidates of an object the lower one is an ancestor of the other
   pub ordered : (object : ObjectId) (first second : Candidate)

@@ -66,7 +66,8 @@ pub data IsAncestor (setting : Setting) (time : ℕ) (object : ObjectId) (first 
       → IsAttested setting time object between → IsAncestor setting time object first between
       → IsAncestor setting time object first second
 
--- the chain at this time: what is ever established is an ancestor of all that is attested above it
+-- the chain at this time: of candidates without barrier, what is ever established is an ancestor of all that is
+-- attested above it
 abbrev pub ChainHolds : Setting → ℕ → Type 0
 ChainHolds setting time = (object : ObjectId) (first second : Candidate)
     → setting.plain first ≡ true → setting.plain second ≡ true

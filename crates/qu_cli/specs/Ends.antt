@@ -35,7 +35,8 @@ use Rattle.qu_cli.specs.Transfer.{TakesScript, Writes, WritesShort, WritesOrFail
 
 -- the text tells of the run, with the answer of its audit, which is Hold exactly where the premises hold, and with its
 -- printed order, whose points it tells where they hold. Then the order is a serial order of the run's operations,
--- whatever up to b faulty replicas and all faulty clients sent, and what is established in the run is a chain
+-- whatever up to b faulty replicas and all faulty clients sent, and on each object the established candidates without
+-- barrier are a chain
 pub record TellsOrder (told : Trace → Premises → List Point → List ℕ) (trace : Trace) (text : List ℕ) : Type 0 where
   pub premises : Premises
   pub order : List Point
@@ -60,7 +61,7 @@ SumsUp number trace text = TellsOrder (summary_of number) trace text
 -- the headline: where no HMAC of a correct party is forged, and no two different texts that the run digests have one
 -- digest, one machine that runs whole operations in the printed order gives each completed operation of the run its
 -- answer, between its call and its reply, and each update once, whatever the network does and up to b faulty replicas
--- and all faulty clients send; and on each object the established candidates are a chain
+-- and all faulty clients send; and on each object the established candidates without barrier are a chain
 pub record HasOneHistory (trace : Trace) : Type 0 where
   pub order : List Point
   pub is_run : IsRun trace
