@@ -2,7 +2,8 @@
 
 use qu_base::List;
 use qu_case_forms::{Case, NoAnswer, repeated, set_off, words_of};
-use qu_cli::{qu_alone, qu_letters};
+use qu_cli::qu_alone;
+use qu_cli_letters::qu_letters;
 use qu_io::{MemSink, MemSource};
 use std::alloc::{AllocError, Global};
 use std::fs;

@@ -13,7 +13,7 @@ use Rattle.qu_words.specs.declared.command.Telling.{Telling}
 use Rattle.qu_words.specs.declared.command.Telling.TheVariants.{Operations, Events, Digests, Bytes, Summary}
 use Rattle.qu_cli.specs.declared.output.Output.TheVariants.{Report}
 use Rattle.qu_cli.specs.Refusal.{bad_text}
-use Rattle.qu_cli.specs.Ends.{Reports, Lists, SumsUp, TellsRun, TellsFront, TellsUntil}
+use Rattle.qu_cli.specs.Ends.{Reports, SumsUp, TellsRun, TellsFront, TellsUntil}
 use Rattle.qu_cli.specs.Output.{IsOutput, TellsRefusal}
 
 -- ---- the run of what is spelled
@@ -74,10 +74,6 @@ stopped_output telling text front told script trace bad spelled is tells text_is
 pub tells_report : (telling : Telling) (trace : Trace) (text : List ℕ) → telling ≡ Operations → Reports trace text
     → TellsRun telling trace text
 tells_report telling trace text is reports = rw is reports
-
-pub tells_listing : (telling : Telling) (trace : Trace) (text : List ℕ) → telling ≡ Events → Lists trace text
-    → TellsRun telling trace text
-tells_listing telling trace text is lists = rw is lists
 
 pub tells_sums : (telling : Telling) (number : ℕ) (trace : Trace) (text : List ℕ) → telling ≡ Summary number
     → SumsUp number trace text → TellsRun telling trace text

@@ -15,8 +15,8 @@ use Rattle.qu_claims.specs.Chained.{IsChained}
 use Rattle.qu_claims.specs.Order.{IsPrintedOrder}
 use Rattle.qu_print.specs.Report.{report_of}
 use Rattle.qu_print.specs.Summary.{summary_of}
-use Rattle.qu_listing.specs.Digests.{digests_text, letter_bytes_text}
-use Rattle.qu_listing.specs.Events.{events_text}
+use Rattle.qu_listed.specs.Digests.{digests_text, letter_bytes_text}
+use Rattle.qu_listed.specs.Events.{events_text}
 use Rattle.qu_language.specs.declared.bad.Bad.{Bad}
 use Rattle.qu_language.specs.declared.line.Script.{Script}
 use Rattle.qu_language.specs.Called.{calls_said}

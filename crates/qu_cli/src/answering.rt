@@ -5,6 +5,7 @@ ghost use Rattle.qu_cli.specs.Transfer.{TakesFew, WritesOrFails};
 ghost use Rattle.qu_cli.specs.Ends.{EndsBad, EndsShort, EndsDone, IsPromised, IsTraced, IsRefused, IsComplete, LeavesInput};
 
 use super::output::output_for;
+use super::teller::Teller;
 use super::telling::tell;
 use super::writing::tell_text;
 use super::{End, Report};
@@ -13,17 +14,18 @@ use qu_words::Command;
 use std::alloc::Global;
 
 /// Does what a program was asked, over the input, with all that it tells in the output. Where it was asked
-/// nothing that it knows, it tells its usage.
+/// nothing that it knows, it tells its usage. Of runs it tells what the teller does.
 ///
 /// The statuses are those of `qu`, with their causes.
-pub fn answer<S: Source, K: Sink>(
+pub fn answer<T: Teller, S: Source, K: Sink>(
     alloc: Global,
     asked: Option<Command>,
     usage: &[u8],
     input: &mut S,
     output: &mut K,
 ) -> Report
-    requires { IfSome asked IsAlone }
+    requires alone { IfSome asked IsAlone }
+    requires served { IfSome asked T.serves }
     ensures status { (result.status ≤ 6) × (result.status ≢ 1) }
     ensures few { TakesFew (S.known input.old) (S.known input.new) }
 
@@ -54,5 +56,5 @@ pub fn answer<S: Source, K: Sink>(
         tell_text(output, usage);
         return Report::from(End::BadWords);
     };
-    tell(output_for(alloc, command, input), output)
+    tell(output_for::<T, S>(alloc, command, input), output)
 }

@@ -3,7 +3,6 @@
 
 mod answering;
 mod answering_live;
-mod letters;
 mod limits;
 mod live;
 mod output;
@@ -12,13 +11,15 @@ mod refusal;
 mod report;
 mod script;
 mod simulation;
+mod teller;
 mod telling;
 mod top;
 mod writing;
 
-pub use letters::qu_letters;
+pub use answering::answer;
 pub use limits::{PIECE, limits_are_these};
 pub use qu_words::{Command, Telling};
 pub use report::{End, Report};
 pub use script::{run_script, run_until_refused};
+pub use teller::Teller;
 pub use top::{qu, qu_alone};

@@ -8,6 +8,7 @@ ghost use Rattle.qu_cli.specs.Output.{IsOutput, IsWhole, Outputs};
 
 use super::reading::{NoScript, take_script};
 use super::simulation::simulate;
+use super::teller::{OperationsTeller, Teller};
 use qu_base::{List, NoMemory};
 use qu_gather::Torn;
 use qu_gen::gen_script;
@@ -61,12 +62,13 @@ impl From<NoMemory> for NoOutput {
 
 /// Reads the script that a command wants, or makes that of its number, and computes what it has to write, without
 /// threads.
-pub fn output_for<S: Source>(
+pub fn output_for<T: Teller, S: Source>(
     alloc: Global,
     command: Command,
     input: &mut S,
 ) -> Result<Output, NoOutput>
-    requires { IsAlone command }
+    requires alone { IsAlone command }
+    requires served { T.serves command }
     ensures outputs { IfOk result (Outputs command (S.known input.old) (S.known input.new)) }
     ensures few { TakesFew (S.known input.old) (S.known input.new) }
     ensures fault { result ≡ Err NoOutput.ReadFault → Rose (S.known input.old) (S.known input.new) }
@@ -75,7 +77,7 @@ pub fn output_for<S: Source>(
     ensures unread { ReadsNothing command → input.new ≡ input.old }
 {
     match command {
-        Command::Sim(telling) => read_output(alloc, telling, input),
+        Command::Sim(telling) => read_output::<T, S>(alloc, telling, input),
         Command::Live => unreachable!(),
         Command::SimGen(number) => Ok(summary_output(alloc, number)?),
         Command::Gen(number) => Ok(script_output(alloc, number)?),
@@ -83,11 +85,12 @@ pub fn output_for<S: Source>(
 }
 
 /// What is to be told of the run of the script on the input.
-fn read_output<S: Source>(
+fn read_output<T: Teller, S: Source>(
     alloc: Global,
     telling: Telling,
     input: &mut S,
 ) -> Result<Output, NoOutput>
+    requires { T.serves (Command.Sim telling) }
     ensures outputs { IfOk result (Outputs (Command.Sim telling) (S.known input.old) (S.known input.new)) }
     ensures few { TakesFew (S.known input.old) (S.known input.new) }
     ensures fault { result ≡ Err NoOutput.ReadFault → Rose (S.known input.old) (S.known input.new) }
@@ -95,7 +98,7 @@ fn read_output<S: Source>(
     ensures whole { IfErr result IsWhole }
 {
     let script = take_script(alloc, input)?;
-    Ok(simulate(alloc, telling, script.as_slice())?)
+    Ok(simulate::<T>(alloc, telling, script.as_slice())?)
 }
 
 /// What is to be told of the run of the script of a number.
@@ -104,7 +107,7 @@ fn summary_output(alloc: Global, number: u64) -> Result<Output, NoMemory>
     ensures { IfOk result (IsOutput (Command.SimGen number) (generated_script number)) }
 {
     let script = gen_script(alloc, number)?;
-    simulate(alloc, Telling::Summary(number), script.as_slice())
+    simulate::<OperationsTeller>(alloc, Telling::Summary(number), script.as_slice())
 }
 
 /// The script of a number.

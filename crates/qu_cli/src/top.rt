@@ -7,6 +7,7 @@ ghost use Rattle.qu_cli.specs.Ends.{EndsBad, EndsShort, EndsDone, HasOneHistory,
 use super::Report;
 use super::answering::answer;
 use super::answering_live::answer_live;
+use super::teller::OperationsTeller;
 use qu_io::{Sink, Source};
 use qu_live::Gate;
 use qu_words::{Command, USAGE, alone_command, asks_live};
@@ -54,7 +55,7 @@ pub fn qu_alone<S: Source, K: Sink>(
     ensures complete { IsComplete (alone_command_of (map string_bytes words.now)) (S.known input.old)
         (S.known input.new) (K.known output.old) (K.known output.new) result.trace result.status }
 {
-    answer(alloc, alone_command(words), USAGE, input, output)
+    answer::<OperationsTeller, S, K>(alloc, alone_command(words), USAGE, input, output)
 }
 
 /// Runs the program `qu`. For the one word `live` it runs the calls of the script on the input on threads, which pass

@@ -1,7 +1,7 @@
 //! The program `qu-letters`: its words, its standard input and its standard output.
 #![tactic(auto)]
 
-use qu_cli::qu_letters;
+use qu_cli_letters::qu_letters;
 use qu_io::{StdSink, StdSource};
 use std::env;
 use std::io::Eprint;

@@ -6,7 +6,7 @@ use Rattle.qu_frames.specs.declared.frame.Letter.{Letter}
 use Rattle.qu_trace.specs.declared.trace.Entry.{Entry}
 use Rattle.qu_print.specs.Lines.{lines_text}
 use Rattle.qu_print.proofs.LineFacts.{lines_text-append}
-use Rattle.qu_listing.specs.Digests.{told_line, sent_at, sent_from, numbered_lines}
+use Rattle.qu_listed.specs.Digests.{told_line, sent_at, sent_from, numbered_lines}
 
 module _ {X : Type 0} where
   pub enumerate_from-append : (first : ℕ) (xs ys : List X) → enumerate_from first (xs ++ ys)

@@ -9,7 +9,7 @@ use Rattle.qu_trace.specs.Letters.{letters_of}
 use Rattle.qu_print.specs.Lines.{lines_text}
 use Rattle.qu_print.proofs.LineFacts.{lines_text-append}
 use Rattle.qu_listing.specs.declared.so_far.SoFar.{SoFar}
-use Rattle.qu_listing.specs.Events.{event_line, points_below, letter_lines, entry_lines}
+use Rattle.qu_listed.specs.Events.{event_line, points_below, letter_lines, entry_lines}
 use Rattle.qu_listing.specs.SoFar.{IsSoFar}
 
 -- the lines of an event: its own, those of its points, and those of its letters

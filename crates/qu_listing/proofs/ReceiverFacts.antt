@@ -8,7 +8,7 @@ use Rattle.qu_frames.specs.Decoding.{decoded}
 use Rattle.qu_frames.specs.Signing.{is_signed, if_signed, brought}
 use Rattle.qu_trace.specs.declared.trace.Setup.{Setup}
 use Rattle.qu_trace.specs.Faulty.{is_faulty}
-use Rattle.qu_listing.specs.Receivers.{keys_of, frame_taken}
+use Rattle.qu_listed.specs.Receivers.{keys_of, frame_taken}
 
 pub faulty_takes : (setup : Setup) (to : Party) (text : List ℕ) → is_faulty setup to ≡ true
     → frame_taken setup to text ≡ None

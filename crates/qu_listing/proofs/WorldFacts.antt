@@ -3,7 +3,7 @@ use Rattle.std.proofs.Common.{◌≡◌, List, [], ◌∷◌, ◌++◌, refl}
 use Rattle.qu_trace.specs.declared.trace.Entry.{Entry}
 use Rattle.qu_trace.specs.declared.trace.Setup.{Setup}
 use Rattle.qu_world.specs.State.{WorldState, opening_world}
-use Rattle.qu_listing.specs.World.{followed, world_from, world_behind}
+use Rattle.qu_listed.specs.World.{followed, world_from, world_behind}
 
 from_more : (world : WorldState) (earlier : List Entry) (entry : Entry)
     → world_from world (earlier ++ entry ∷ []) ≡ followed (world_from world earlier) entry.event

@@ -1,10 +1,1 @@
-pub mod Digests
-pub mod Names
-pub mod Verdicts
-pub mod Frames
-pub mod Receivers
-pub mod World
-pub mod Fetching
-pub mod Rounds
-pub mod Events
 pub mod SoFar

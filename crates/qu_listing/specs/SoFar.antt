@@ -10,8 +10,8 @@ use Rattle.qu_trace.specs.declared.trace.Setup.{Setup}
 use Rattle.qu_trace.specs.Letters.{letters_of}
 use Rattle.qu_trace.specs.Operation.{begun_by}
 use Rattle.qu_trace.specs.Starts.{AreStarts}
-use Rattle.qu_listing.specs.Receivers.{frame_taken}
-use Rattle.qu_listing.specs.World.{world_behind}
+use Rattle.qu_listed.specs.Receivers.{frame_taken}
+use Rattle.qu_listed.specs.World.{world_behind}
 use Rattle.qu_listing.specs.declared.so_far.Sent.{Sent}
 use Rattle.qu_listing.specs.declared.so_far.SoFar.{SoFar}
 

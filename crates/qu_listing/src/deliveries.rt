@@ -2,10 +2,10 @@
 ghost use Rattle.std.specs.Prelude.{◌≡◌, [], ◌++◌, if◌then◌else◌, length, OnOk, string_bytes, codes};
 ghost use Rattle.std.specs.Fmt.{decimal};
 ghost use Rattle.qu_trace.specs.Letters.{letters_of, numbered};
-ghost use Rattle.qu_listing.specs.Names.{party_text, count_text};
-ghost use Rattle.qu_listing.specs.Events.{receiver_text, injected_text};
+ghost use Rattle.qu_listed.specs.Names.{party_text, count_text};
+ghost use Rattle.qu_listed.specs.Events.{receiver_text, injected_text};
 ghost use Rattle.qu_listing.specs.SoFar.{IsSoFar};
-ghost use Rattle.qu_listing.specs.Receivers.{frame_taken};
+ghost use Rattle.qu_listed.specs.Receivers.{frame_taken};
 
 use super::frames::put_frame;
 use super::names::{put_count, put_party};

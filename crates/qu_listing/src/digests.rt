@@ -1,26 +1,18 @@
 ghost use Rattle.std.specs.Prelude.{◌≡◌, ◌∷◌, [], ◌++◌, ◌<◌, ◌≤◌, ◌^◌, length, map, IfOk, OnOk, string_bytes};
 ghost use Rattle.qu_print.specs.Lines.{lines_text};
-ghost use Rattle.qu_listing.specs.Digests.{short_name, route_text, digest_text, last_text, told_line, sent_at, sent_from, numbered_lines, digests_text, letter_bytes_text};
+ghost use Rattle.qu_listed.specs.Digests.{short_name, route_text, digest_text, last_text, told_line, sent_at, sent_from, numbered_lines, digests_text, letter_bytes_text};
 
 use qu_base::{List, NoMemory, Party};
 use qu_frames::Letter;
+use qu_listed::LastWord;
 use qu_notation::put_bytes_text;
 use qu_trace::{Entry, Trace};
 use sha2::{Digest, Sha256};
 use std::alloc::Global;
 
-/// What stands last in the line of a letter.
-#[derive(Clone, Copy, Debug, PartialEq, Eq)]
-pub enum LastWord {
-    /// The SHA-256 digest of all its bytes.
-    Digest,
-    /// All its bytes.
-    Bytes,
-}
-
 /// A line for each letter of a run, by rising number: its number, its event, sender, receiver, length
 /// in bytes, and the SHA-256 digest of all its bytes.
-#[tactic(auto, unfolding(crate::specs::Digests::digests_text))]
+#[tactic(auto, unfolding(qu_listed::specs::Digests::digests_text))]
 pub fn digests_text(alloc: Global, trace: &Trace) -> Result<List<u8>, NoMemory>
     ensures { IfOk result (λ text. text ≡ digests_text trace.now) }
 {
@@ -31,7 +23,7 @@ pub fn digests_text(alloc: Global, trace: &Trace) -> Result<List<u8>, NoMemory>
 
 /// A line for each letter as above, with all its bytes in the place of their digest, by two lower-case hexadecimal
 /// digits each, or `-` where it has none.
-#[tactic(auto, unfolding(crate::specs::Digests::letter_bytes_text))]
+#[tactic(auto, unfolding(qu_listed::specs::Digests::letter_bytes_text))]
 pub fn bytes_text(alloc: Global, trace: &Trace) -> Result<List<u8>, NoMemory>
     ensures { IfOk result (λ text. text ≡ letter_bytes_text trace.now) }
 {
@@ -89,7 +81,7 @@ fn put_letters(
     Ok(())
 }
 
-#[tactic(auto, unfolding(crate::specs::Digests::told_line))]
+#[tactic(auto, unfolding(qu_listed::specs::Digests::told_line))]
 fn put_letter(
     alloc: Global,
     text: &mut String,
@@ -131,7 +123,7 @@ fn put_last(alloc: Global, text: &mut String, last: LastWord, letter: &[u8]) -> 
 }
 
 /// Writes the SHA-256 digest of a text in lower-case hexadecimal.
-#[tactic(auto, unfolding(crate::specs::Digests::digest_text))]
+#[tactic(auto, unfolding(qu_listed::specs::Digests::digest_text))]
 fn put_digest(alloc: Global, text: &mut String, letter: &[u8]) -> Result<(), NoMemory>
     ensures { OnOk result (string_bytes text.new ≡ string_bytes text.old ++ digest_text letter.now) }
 {

@@ -1,7 +1,7 @@
 ghost use Rattle.std.specs.Prelude.{◌≡◌, ◌∷◌, [], ◌++◌, IfOk, OnOk, string_bytes};
 ghost use Rattle.qu_world.specs.Run.{IsSetup};
 ghost use Rattle.qu_print.specs.Lines.{lines_text};
-ghost use Rattle.qu_listing.specs.Events.{events_text, listing, event_line, front_text, back_text, entry_lines, event_text, outcome_text, end_text};
+ghost use Rattle.qu_listed.specs.Events.{events_text, listing, event_line, front_text, back_text, entry_lines, event_text, outcome_text, end_text};
 ghost use Rattle.qu_listing.specs.SoFar.{IsSoFar};
 
 use super::deliveries::{put_delivery, put_injection};
@@ -13,8 +13,9 @@ use super::points::put_points;
 use super::receivers::Receivers;
 use super::rounds::put_rounds;
 use super::so_far::SoFar;
-use super::stood::{Stood, stood_before};
+use super::stood::stood_before;
 use qu_base::{ClientId, List, NoMemory, Party};
+use qu_listed::Stood;
 use qu_machine::Point;
 use qu_objects::Outcome;
 use qu_print::{put_answer, put_op, told_order};
@@ -25,7 +26,7 @@ use std::alloc::Global;
 /// A line for each event of a run, with the operation that it ends, and below it a line for each operation that takes
 /// effect at it, by this order, and for each letter that it sends. A text of which its receiver takes no frame is told
 /// as ignored. No point is told where the premises of the order do not hold.
-#[tactic(auto, unfolding(crate::specs::Events::events_text))]
+#[tactic(auto, unfolding(qu_listed::specs::Events::events_text))]
 pub fn events_text(
     alloc: Global,
     trace: &Trace,
@@ -48,7 +49,7 @@ pub fn events_text(
 }
 
 /// Writes the lines of all events.
-#[tactic(auto, unfolding(qu_print::specs::Lines::lines_text, crate::specs::Events::listing))]
+#[tactic(auto, unfolding(qu_print::specs::Lines::lines_text, qu_listed::specs::Events::listing))]
 fn put_events(
     alloc: Global,
     text: &mut String,
@@ -76,7 +77,7 @@ fn put_events(
 }
 
 /// Writes the lines of the event behind the earlier ones, and then knows of it too.
-#[tactic(auto, unfolding(crate::specs::Events::event_line))]
+#[tactic(auto, unfolding(qu_listed::specs::Events::event_line))]
 fn put_event(
     alloc: Global,
     text: &mut String,

@@ -1,7 +1,7 @@
 //! Versions that replicas fetch: which requests wait, and whether what another replica sends counts.
 ghost use Rattle.std.specs.Prelude.{◌≡◌, ◌++◌, if◌then◌else◌, OnOk, IfOk, string_bytes, codes};
 ghost use Rattle.std.specs.Option.{option_copied};
-ghost use Rattle.qu_listing.specs.Fetching.{is_fetch, waits_text, wakes_text, found_text, counting_text, frame_noted, noted_text};
+ghost use Rattle.qu_listed.specs.Fetching.{is_fetch, waits_text, wakes_text, found_text, counting_text, frame_noted, noted_text};
 
 use super::offer::Offer;
 use super::receivers::Receivers;

@@ -1,6 +1,6 @@
 //! The world in which a run is told.
 ghost use Rattle.std.specs.Prelude.{◌≡◌, OnOk};
-ghost use Rattle.qu_listing.specs.World.{followed};
+ghost use Rattle.qu_listed.specs.World.{followed};
 
 use qu_base::NoMemory;
 use qu_trace::Event;

@@ -1,5 +1,5 @@
 ghost use Rattle.std.specs.Prelude.{◌≡◌, ◌++◌, OnOk, string_bytes};
-ghost use Rattle.qu_listing.specs.Frames.{showers_text, body_text, version_text, state_text, asked_text, frame_text};
+ghost use Rattle.qu_listed.specs.Frames.{showers_text, body_text, version_text, state_text, asked_text, frame_text};
 
 use super::names::{put_count, put_object, put_party};
 use super::told::{LinePart, put_all};
@@ -12,7 +12,7 @@ use qu_print::put_value;
 use qu_stamp::Stamp;
 
 impl LinePart for SetOf {
-    ghost use Rattle.qu_listing.specs.Frames.{set_text};
+    ghost use Rattle.qu_listed.specs.Frames.{set_text};
 
     ghost text_of = { set_text };
 
@@ -25,7 +25,7 @@ impl LinePart for SetOf {
 }
 
 impl LinePart for (ObjectId, ReplicaId) {
-    ghost use Rattle.qu_listing.specs.Frames.{culled_text};
+    ghost use Rattle.qu_listed.specs.Frames.{culled_text};
 
     ghost text_of = { culled_text };
 
@@ -39,7 +39,7 @@ impl LinePart for (ObjectId, ReplicaId) {
 }
 
 impl LinePart for Sealed {
-    ghost use Rattle.qu_listing.specs.Frames.{shown_text};
+    ghost use Rattle.qu_listed.specs.Frames.{shown_text};
 
     ghost text_of = { shown_text };
 
@@ -52,7 +52,7 @@ impl LinePart for Sealed {
 }
 
 /// Writes a frame: what it asks and upon which histories, or what it answers and shows.
-#[tactic(auto, unfolding(crate::specs::Frames::frame_text))]
+#[tactic(auto, unfolding(qu_listed::specs::Frames::frame_text))]
 pub fn put_frame(text: &mut String, frame: &Frame) -> Result<(), NoMemory>
     ensures { OnOk result (string_bytes text.new ≡ string_bytes text.old ++ frame_text frame.now) }
 {

@@ -2,8 +2,8 @@
 ghost use Rattle.std.specs.Prelude.{◌≡◌, ◌∷◌, [], ◌++◌, ◌+◌, length, map, IfOk, OnOk, string_bytes};
 ghost use Rattle.qu_print.specs.Lines.{lines_text};
 ghost use Rattle.qu_frames.specs.Decoding.{decoded};
-ghost use Rattle.qu_listing.specs.Frames.{carried_text};
-ghost use Rattle.qu_listing.specs.Events.{letter_route, letter_line, letter_lines};
+ghost use Rattle.qu_listed.specs.Frames.{carried_text};
+ghost use Rattle.qu_listed.specs.Events.{letter_route, letter_line, letter_lines};
 ghost use Rattle.qu_listing.specs.SoFar.{sent_of};
 
 use super::frames::put_frame;
@@ -36,7 +36,7 @@ pub fn put_letters(
 }
 
 /// Writes the line of a letter, and tells what its deliveries need to know of it.
-#[tactic(auto, unfolding(crate::specs::Events::letter_line))]
+#[tactic(auto, unfolding(qu_listed::specs::Events::letter_line))]
 fn put_letter(
     alloc: Global,
     text: &mut String,
@@ -70,7 +70,7 @@ fn put_route(text: &mut String, letter: &Letter) -> Result<(), NoMemory>
 }
 
 /// Writes the frame that a letter carries, and tells whether its receiver takes none of it.
-#[tactic(auto, unfolding(crate::specs::Receivers::frame_taken, qu_frames::specs::Signing::brought))]
+#[tactic(auto, unfolding(qu_listed::specs::Receivers::frame_taken, qu_frames::specs::Signing::brought))]
 fn put_carried(
     alloc: Global,
     text: &mut String,

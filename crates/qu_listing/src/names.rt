@@ -1,9 +1,9 @@
 ghost use Rattle.std.specs.Prelude.{◌≡◌, ◌++◌, OnOk, string_bytes};
-ghost use Rattle.qu_listing.specs.Names.{party_text, object_text, count_text};
+ghost use Rattle.qu_listed.specs.Names.{party_text, object_text, count_text};
 
 use qu_base::{ClientId, NoMemory, ObjectId, Party, ReplicaId};
 
-#[tactic(auto, unfolding(crate::specs::Names::party_text))]
+#[tactic(auto, unfolding(qu_listed::specs::Names::party_text))]
 pub fn put_party(text: &mut String, party: Party) -> Result<(), NoMemory>
     ensures { OnOk result (string_bytes text.new ≡ string_bytes text.old ++ party_text party) }
 {
@@ -14,7 +14,7 @@ pub fn put_party(text: &mut String, party: Party) -> Result<(), NoMemory>
     Ok(())
 }
 
-#[tactic(auto, unfolding(crate::specs::Names::object_text))]
+#[tactic(auto, unfolding(qu_listed::specs::Names::object_text))]
 pub fn put_object(text: &mut String, object: ObjectId) -> Result<(), NoMemory>
     ensures { OnOk result (string_bytes text.new ≡ string_bytes text.old ++ object_text object) }
 {
@@ -24,7 +24,7 @@ pub fn put_object(text: &mut String, object: ObjectId) -> Result<(), NoMemory>
 }
 
 /// Writes a count of what this word says of one.
-#[tactic(auto, unfolding(crate::specs::Names::count_text))]
+#[tactic(auto, unfolding(qu_listed::specs::Names::count_text))]
 pub fn put_count(text: &mut String, count: usize, word: &str) -> Result<(), NoMemory>
     ensures { OnOk result (string_bytes text.new ≡ string_bytes text.old ++ count_text count word.now) }
 {

@@ -1,7 +1,7 @@
 //! The operations that take effect at an event.
 ghost use Rattle.std.specs.Prelude.{◌≡◌, ◌++◌, OnOk, string_bytes};
 ghost use Rattle.qu_print.specs.Lines.{lines_text};
-ghost use Rattle.qu_listing.specs.Events.{points_below};
+ghost use Rattle.qu_listed.specs.Events.{points_below};
 
 use qu_base::NoMemory;
 use qu_machine::Point;

@@ -2,7 +2,7 @@ ghost use Rattle.std.specs.Prelude.{◌≡◌, ◌≤◌, Ok, IfOk, is_none};
 ghost use Rattle.qu_base.specs.declared.limits.TheConstants.{LAST_CLIENT};
 ghost use Rattle.qu_frames.specs.Decoding.{decoded};
 ghost use Rattle.qu_trace.specs.Faulty.{is_faulty};
-ghost use Rattle.qu_listing.specs.Receivers.{frame_taken};
+ghost use Rattle.qu_listed.specs.Receivers.{frame_taken};
 ghost use Rattle.qu_world.specs.Run.{IsSetup};
 ghost use Rattle.qu_world.specs.State.{opening_world};
 
@@ -24,7 +24,7 @@ pub struct Receivers<'a> {
 impl<'a> Model for Receivers<'a> {
     ghost use Rattle.std.specs.Prelude.{◌≡◌};
     ghost use Rattle.qu_trace.specs.declared.trace.Setup.{Setup as Parties};
-    ghost use Rattle.qu_listing.specs.Receivers.{keys_of};
+    ghost use Rattle.qu_listed.specs.Receivers.{keys_of};
 
     ghost Value = { Parties };
 

@@ -3,7 +3,7 @@ ghost use Rattle.qu_trace.specs.Operation.{begun_by};
 ghost use Rattle.qu_trace.specs.Letters.{letters_of, numbered, offered_by};
 ghost use Rattle.qu_trace.specs.Starts.{AreStarts};
 ghost use Rattle.qu_world.specs.Run.{IsSetup};
-ghost use Rattle.qu_listing.specs.World.{followed};
+ghost use Rattle.qu_listed.specs.World.{followed};
 ghost use Rattle.qu_listing.specs.SoFar.{IsSoFar, CountsCalls, sent_of};
 
 use super::following::follow;

@@ -1,42 +1,16 @@
 //! How a client stands before an event at which it steps.
 ghost use Rattle.std.specs.Prelude.{◌≡◌, Some, IfOk};
-ghost use Rattle.qu_listing.specs.Rounds.{offered_client, stepping_client, is_agreed_by, why_over, round_before, stood_by, stood_before};
+ghost use Rattle.qu_listed.specs.Rounds.{offered_client, stepping_client, is_agreed_by, why_over, round_before, stood_by, stood_before};
 
 use super::offer::Offer;
 use super::receivers::Receivers;
 use qu_base::{ClientId, NoMemory, Party};
-use qu_client::{Client, Phase, Work, is_agreed};
+use qu_client::{Client, Work, is_agreed};
 use qu_frames::Frame;
+use qu_listed::{Round, Stood, Why};
 use qu_trace::Event;
 use qu_world::World;
 use std::alloc::Global;
-
-/// Why a round is over.
-#[derive(Clone, Copy, Debug, PartialEq, Eq)]
-pub enum Why {
-    /// A quorum agrees.
-    Agreed,
-    /// No quorum can agree any more.
-    Split,
-    /// A tick of the client's clock came first.
-    TimedOut,
-}
-
-/// The round that is under way before an event, or that ended before a rest.
-#[derive(Clone, Copy, Debug)]
-pub struct Round {
-    pub number: u8,
-    pub phase: Phase,
-    /// Why the round is over behind the event, if it is.
-    pub why: Why,
-}
-
-/// A correct client that steps at an event, before it.
-#[derive(Clone, Copy, Debug)]
-pub struct Stood {
-    pub client: ClientId,
-    pub round: Option<Round>,
-}
 
 /// How the correct client stands that steps at an event, if one does.
 pub fn stood_before(

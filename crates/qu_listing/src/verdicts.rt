@@ -1,5 +1,5 @@
 ghost use Rattle.std.specs.Prelude.{◌≡◌, ◌++◌, OnOk, string_bytes};
-ghost use Rattle.qu_listing.specs.Verdicts.{time_word, stamp_text, class_text, not_method_text, refusal_text, answered_text, verdict_text};
+ghost use Rattle.qu_listed.specs.Verdicts.{time_word, stamp_text, class_text, not_method_text, refusal_text, answered_text, verdict_text};
 
 use super::names::{put_object, put_party};
 use super::told::{LinePart, put_all};
@@ -10,7 +10,7 @@ use qu_print::put_answer;
 use qu_stamp::Stamp;
 
 impl LinePart for (ObjectId, Stamp) {
-    ghost use Rattle.qu_listing.specs.Verdicts.{object_at_text};
+    ghost use Rattle.qu_listed.specs.Verdicts.{object_at_text};
 
     ghost text_of = { object_at_text };
 
@@ -24,7 +24,7 @@ impl LinePart for (ObjectId, Stamp) {
 }
 
 /// Writes a verdict in the words of the protocol.
-#[tactic(auto, unfolding(crate::specs::Verdicts::verdict_text))]
+#[tactic(auto, unfolding(qu_listed::specs::Verdicts::verdict_text))]
 pub fn put_verdict(text: &mut String, verdict: &Verdict) -> Result<(), NoMemory>
     ensures { OnOk result (string_bytes text.new ≡ string_bytes text.old ++ verdict_text verdict.now) }
 {
@@ -87,7 +87,7 @@ fn put_refusal(text: &mut String, refusal: Refusal) -> Result<(), NoMemory>
     Ok(())
 }
 
-#[tactic(auto, unfolding(crate::specs::Verdicts::not_method_text))]
+#[tactic(auto, unfolding(qu_listed::specs::Verdicts::not_method_text))]
 fn put_not_method(text: &mut String, object: ObjectId, class: ClassCode) -> Result<(), NoMemory>
     ensures { OnOk result (string_bytes text.new ≡ string_bytes text.old ++ not_method_text object class) }
 {
@@ -111,7 +111,7 @@ fn class_word(class: ClassCode) -> &'static str
 }
 
 /// Writes a stamp's time, whether it is that of a barrier, and its client.
-#[tactic(auto, unfolding(crate::specs::Verdicts::stamp_text))]
+#[tactic(auto, unfolding(qu_listed::specs::Verdicts::stamp_text))]
 pub fn put_stamp(text: &mut String, stamp: &Stamp) -> Result<(), NoMemory>
     ensures { OnOk result (string_bytes text.new ≡ string_bytes text.old ++ stamp_text stamp.now) }
 {

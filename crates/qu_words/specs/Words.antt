@@ -30,6 +30,17 @@ TellsOperations Live = ⊤
 TellsOperations (SimGen number) = ⊤
 TellsOperations (Gen number) = ⊤
 
+-- the letters of a run are told, and nothing else
+abbrev pub TellsLetters : Command → Type 0
+TellsLetters (Sim Operations) = ⊥
+TellsLetters (Sim Events) = ⊤
+TellsLetters (Sim Digests) = ⊤
+TellsLetters (Sim Bytes) = ⊤
+TellsLetters (Sim (Summary number)) = ⊥
+TellsLetters Live = ⊥
+TellsLetters (SimGen number) = ⊥
+TellsLetters (Gen number) = ⊥
+
 -- ---- of `qu`
 
 -- the number below 2^64 that a word of 1 to 20 decimal digits writes

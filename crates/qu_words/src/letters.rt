@@ -1,7 +1,7 @@
 //! The words of `qu-letters`.
 ghost use Rattle.std.specs.Prelude.{◌≡◌, ◌↔◌, Some, IfSome, Contains, map, string_bytes};
 ghost use Rattle.qu_words.specs.declared.command.Command.{Command as ACommand};
-ghost use Rattle.qu_words.specs.Words.{IsAlone, command_in, letters_commands};
+ghost use Rattle.qu_words.specs.Words.{IsAlone, TellsLetters, command_in, letters_commands};
 
 use super::{Command, Telling};
 
@@ -13,6 +13,7 @@ pub fn letters_command(words: &[String]) -> Option<Command>
     ensures value { result ≡ command_in letters_commands (map string_bytes words.now) }
     ensures listed { (command : ACommand) → (result ≡ Some command)
         ↔ Contains letters_commands (map string_bytes words.now, command) }
+    ensures letters { IfSome result TellsLetters }
     ensures alone { IfSome result IsAlone }
 {
     let command = letters_command_of(words);
@@ -22,6 +23,7 @@ pub fn letters_command(words: &[String]) -> Option<Command>
 #[tactic(auto, unfolding(crate::specs::Words::command_in))]
 fn letters_command_of(words: &[String]) -> Option<Command>
     ensures value { result ≡ command_in letters_commands (map string_bytes words.now) }
+    ensures letters { IfSome result TellsLetters }
     ensures alone { IfSome result IsAlone }
 {
     match words {

@@ -1,5 +1,5 @@
 -- the lines of the next letter are those that come next in the whole
-use Rattle.qu_listing.specs.Digests.{last_text}
+use Rattle.qu_listed.specs.Digests.{last_text}
 use Rattle.qu_listing.proofs.DigestFacts.{letter_step}
 use Rattle.qu_listing.proofs.digests.put_letters.Goals as goal
 

@@ -1,6 +1,6 @@
 -- the lines of the next event are those that come next in the whole
 use Rattle.std.proofs.Common.{◌+◌, arith}
-use Rattle.qu_listing.specs.Digests.{last_text}
+use Rattle.qu_listed.specs.Digests.{last_text}
 use Rattle.qu_listing.proofs.DigestFacts.{event_step}
 use Rattle.qu_listing.proofs.digests.put_lines.Goals as goal
 

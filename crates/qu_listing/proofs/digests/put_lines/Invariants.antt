@@ -2,7 +2,7 @@
 use Rattle.std.proofs.Common.{◌≡◌, ◌+◌, ◌*◌, ◌^◌, ◌≤◌, ◌++◌, drop}
 use Rattle.std.specs.Prelude.{string_bytes}
 use Rattle.qu_print.specs.Lines.{lines_text}
-use Rattle.qu_listing.specs.Digests.{last_text, numbered_lines, sent_from}
+use Rattle.qu_listed.specs.Digests.{last_text, numbered_lines, sent_from}
 use Rattle.qu_listing.proofs.digests.put_lines.Given as goal
 
 abbrev pub invariant-loop-index : goal.invariant-loop-index

@@ -3,12 +3,12 @@ use Rattle.std.proofs.Common.{rules, arith, append_assoc, ℕ, ◌≡◌, ◌+�
 use Rattle.std.proofs.lemmas.Grind.{common_steps}
 use Rattle.qu_print.specs.Lines.{lines_text}
 use Rattle.qu_trace.specs.Letters.{letters_of}
-use Rattle.qu_listing.specs.Events.{event_line, points_below, letter_lines}
+use Rattle.qu_listed.specs.Events.{event_line, points_below, letter_lines}
 use Rattle.qu_listing.proofs.EventFacts.{entry_text}
 use Rattle.qu_listing.proofs.LetterFacts.{sent_more}
 use Rattle.qu_world.specs.State.{WorldState}
 use Rattle.qu_listing.specs.SoFar.{sent_of}
-use Rattle.qu_listing.specs.World.{followed}
+use Rattle.qu_listed.specs.World.{followed}
 use Rattle.qu_listing.proofs.WorldFacts.{world_more}
 use Rattle.qu_listing.proofs.events.put_event.Goals as goal
 

@@ -1,6 +1,6 @@
 -- the lines of the next event are those that come next in the whole, and then it is known too
 use Rattle.std.proofs.Common.{refl, take}
-use Rattle.qu_listing.specs.Events.{listing}
+use Rattle.qu_listed.specs.Events.{listing}
 use Rattle.qu_listing.proofs.EventFacts.{event_step, known_step}
 use Rattle.qu_listing.proofs.events.put_events.Goals as goal
 

@@ -3,7 +3,7 @@ use Rattle.std.proofs.Common.{◌≡◌, ◌++◌, drop, take}
 use Rattle.std.specs.Prelude.{string_bytes}
 use Rattle.std.specs.List.{flat_map, enumerate_from}
 use Rattle.qu_print.specs.Lines.{lines_text}
-use Rattle.qu_listing.specs.Events.{listing, entry_lines}
+use Rattle.qu_listed.specs.Events.{listing, entry_lines}
 use Rattle.qu_listing.specs.SoFar.{IsSoFar}
 use Rattle.qu_listing.proofs.events.put_events.Given as goal
 

@@ -2,7 +2,7 @@
 use Rattle.std.proofs.Common.{◌≡◌, ◌++◌, drop}
 use Rattle.std.specs.Prelude.{string_bytes}
 use Rattle.std.specs.List.{flat_map}
-use Rattle.qu_listing.specs.Frames.{shower_text}
+use Rattle.qu_listed.specs.Frames.{shower_text}
 use Rattle.qu_listing.proofs.frames.put_showers.Given as goal
 
 abbrev pub invariant-loop-entry : goal.invariant-loop-entry

@@ -2,7 +2,7 @@
 use Rattle.std.proofs.Common.{◌≡◌, ◌+◌, ◌++◌, length, map, drop}
 use Rattle.std.specs.Prelude.{string_bytes}
 use Rattle.qu_print.specs.Lines.{lines_text}
-use Rattle.qu_listing.specs.Events.{letter_lines}
+use Rattle.qu_listed.specs.Events.{letter_lines}
 use Rattle.qu_listing.specs.SoFar.{sent_of}
 use Rattle.qu_listing.proofs.letters.put_letters.Given as goal
 

@@ -2,7 +2,7 @@
 use Rattle.std.proofs.Common.{◌≡◌, ◌++◌, drop}
 use Rattle.std.specs.Prelude.{string_bytes}
 use Rattle.qu_print.specs.Lines.{lines_text}
-use Rattle.qu_listing.specs.Events.{points_below}
+use Rattle.qu_listed.specs.Events.{points_below}
 use Rattle.qu_listing.proofs.points.put_points.Given as goal
 
 abbrev pub invariant-loop-point : goal.invariant-loop-point

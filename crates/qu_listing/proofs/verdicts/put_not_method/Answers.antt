@@ -1,5 +1,5 @@
 use Rattle.std.proofs.Common.{append_assoc, refl}
-use Rattle.qu_listing.specs.Verdicts.{not_method_text}
+use Rattle.qu_listed.specs.Verdicts.{not_method_text}
 use Rattle.qu_listing.proofs.verdicts.put_not_method.Goals as goal
 
 pub returns : goal.returns

@@ -5,7 +5,7 @@ use Rattle.qu_seal.specs.Keys.{Ring}
 use Rattle.qu_frames.specs.Signing.{is_signed}
 use Rattle.qu_trace.specs.declared.trace.Setup.{Setup}
 use Rattle.qu_trace.specs.Faulty.{is_faulty}
-use Rattle.qu_listing.specs.Receivers.{keys_of}
+use Rattle.qu_listed.specs.Receivers.{keys_of}
 use Rattle.qu_listing.proofs.ReceiverFacts.{faulty_ignores, correct_ignores}
 use Rattle.qu_listing.proofs.receivers.Receivers.ignores.Goals as goal
 

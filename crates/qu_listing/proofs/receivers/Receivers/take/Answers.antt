@@ -6,7 +6,7 @@ use Rattle.qu_frames.specs.declared.frame.Frame.{Frame}
 use Rattle.qu_frames.specs.Signing.{brought}
 use Rattle.qu_trace.specs.declared.trace.Setup.{Setup}
 use Rattle.qu_trace.specs.Faulty.{is_faulty}
-use Rattle.qu_listing.specs.Receivers.{keys_of, frame_taken}
+use Rattle.qu_listed.specs.Receivers.{keys_of, frame_taken}
 use Rattle.qu_listing.proofs.ReceiverFacts.{faulty_takes, correct_takes}
 use Rattle.qu_listing.proofs.receivers.Receivers.take.Goals as goal
 

@@ -1,6 +1,6 @@
 -- nothing is known before the first event
 use Rattle.qu_trace.specs.Letters.{letters_of}
-use Rattle.qu_listing.specs.World.{world_from, world_behind}
+use Rattle.qu_listed.specs.World.{world_from, world_behind}
 use Rattle.qu_listing.proofs.CallFacts.{knows_no_call}
 use Rattle.qu_listing.proofs.so_far.SoFar.new.Goals as goal
 

@@ -16,8 +16,8 @@ use Rattle.qu_frames.specs.declared.frame.Body.TheVariants.{Act, Ask, Mend}
 use Rattle.qu_frames.specs.declared.frame.Frame.{Frame}
 use Rattle.qu_frames.specs.declared.frame.Frame.TheVariants.{Request, Reply, Fetch, Fetched}
 use Rattle.qu_print.specs.Words.{name_text, value_text}
-use Rattle.qu_listing.specs.Names.{party_text, object_text, count_text}
-use Rattle.qu_listing.specs.Verdicts.{stamp_text, verdict_text}
+use Rattle.qu_listed.specs.Names.{party_text, object_text, count_text}
+use Rattle.qu_listed.specs.Verdicts.{stamp_text, verdict_text}
 
 -- ---- what a request shows
 

@@ -1,9 +1,9 @@
 -- The listing has an order that is serial where the premises hold.
 use Rattle.std.proofs.Common.{ap, subst, sym, ◌∙◌}
 use Rattle.qu_trace.specs.declared.trace.Trace.{Trace}
-use Rattle.qu_listing.specs.Events.{events_text}
+use Rattle.qu_listed.specs.Events.{events_text}
 use Rattle.qu_cli.specs.Ends.{Lists}
-use Rattle.qu_cli.proofs.simulation.listing_text.Goals as goal
+use Rattle.qu_cli_letters.proofs.teller.listing_text.Goals as goal
 
 pub returns : goal.returns
 returns c =

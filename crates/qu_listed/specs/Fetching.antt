@@ -19,7 +19,7 @@ use Rattle.qu_replica.specs.Step.{counting}
 use Rattle.qu_trace.specs.declared.trace.Setup.{Setup}
 use Rattle.qu_trace.specs.Faulty.{is_replica}
 use Rattle.qu_print.specs.Words.{name_text}
-use Rattle.qu_listing.specs.Receivers.{frame_taken}
+use Rattle.qu_listed.specs.Receivers.{frame_taken}
 
 -- ---- a request that waits
 

@@ -4,8 +4,8 @@ ghost use Rattle.qu_words.specs.Words.{command_in, letters_commands, letters_usa
 ghost use Rattle.qu_cli.specs.Transfer.{TakesFew, WritesOrFails};
 ghost use Rattle.qu_cli.specs.Ends.{EndsBad, EndsShort, EndsDone, IsPromised, IsTraced, IsRefused, IsComplete};
 
-use super::Report;
-use super::answering::answer;
+use super::teller::LettersTeller;
+use qu_cli::{Report, answer};
 use qu_io::{Sink, Source};
 use qu_words::{LETTERS_USAGE, letters_command};
 use std::alloc::Global;
@@ -46,5 +46,5 @@ pub fn qu_letters<S: Source, K: Sink>(
     ensures complete { IsComplete (command_in letters_commands (map string_bytes words.now)) (S.known input.old)
         (S.known input.new) (K.known output.old) (K.known output.new) result.trace result.status }
 {
-    answer(alloc, letters_command(words), LETTERS_USAGE, input, output)
+    answer::<LettersTeller, S, K>(alloc, letters_command(words), LETTERS_USAGE, input, output)
 }

@@ -20,12 +20,12 @@ use Rattle.qu_trace.specs.declared.event.Event.{Event}
 use Rattle.qu_trace.specs.declared.event.Event.TheVariants.{Invoke, Tick}
 use Rattle.qu_trace.specs.declared.trace.Setup.{Setup}
 use Rattle.qu_world.specs.State.{WorldState, correct_client}
-use Rattle.qu_listing.specs.declared.stood.Round.{Round}
-use Rattle.qu_listing.specs.declared.stood.Stood.{Stood}
-use Rattle.qu_listing.specs.declared.stood.Why.{Why}
-use Rattle.qu_listing.specs.declared.stood.Why.TheVariants.{Agreed, Split, TimedOut}
-use Rattle.qu_listing.specs.Names.{object_text, party_text, count_text}
-use Rattle.qu_listing.specs.Receivers.{frame_taken}
+use Rattle.qu_listed.specs.declared.stood.Round.{Round}
+use Rattle.qu_listed.specs.declared.stood.Stood.{Stood}
+use Rattle.qu_listed.specs.declared.stood.Why.{Why}
+use Rattle.qu_listed.specs.declared.stood.Why.TheVariants.{Agreed, Split, TimedOut}
+use Rattle.qu_listed.specs.Names.{object_text, party_text, count_text}
+use Rattle.qu_listed.specs.Receivers.{frame_taken}
 
 -- ---- before an event
 

@@ -11,8 +11,8 @@ use Rattle.qu_frames.specs.declared.frame.Letter.{Letter}
 use Rattle.qu_trace.specs.declared.trace.Entry.{Entry}
 use Rattle.qu_trace.specs.declared.trace.Trace.{Trace}
 use Rattle.qu_print.specs.Lines.{lines_text}
-use Rattle.qu_listing.specs.declared.digests.LastWord.{LastWord}
-use Rattle.qu_listing.specs.declared.digests.LastWord.TheVariants.{Digest, Bytes}
+use Rattle.qu_listed.specs.declared.last_word.LastWord.{LastWord}
+use Rattle.qu_listed.specs.declared.last_word.LastWord.TheVariants.{Digest, Bytes}
 
 -- `r0` is replica 0, `c1` is client 1
 abbrev pub short_name : Party → List ℕ

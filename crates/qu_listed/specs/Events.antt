@@ -26,13 +26,13 @@ use Rattle.qu_print.specs.Lines.{lines_text}
 use Rattle.qu_print.specs.Report.{told_order}
 use Rattle.qu_print.specs.Timeline.{point_line}
 use Rattle.qu_print.specs.Words.{name_text, op_text, answer_text}
-use Rattle.qu_listing.specs.Names.{party_text, count_text}
-use Rattle.qu_listing.specs.Frames.{frame_text, carried_text}
-use Rattle.qu_listing.specs.Receivers.{frame_taken}
-use Rattle.qu_listing.specs.declared.stood.Stood.{Stood}
-use Rattle.qu_listing.specs.Fetching.{noted_text, waits_text}
-use Rattle.qu_listing.specs.Rounds.{stood_before, rounds_text}
-use Rattle.qu_listing.specs.World.{followed, world_behind}
+use Rattle.qu_listed.specs.Names.{party_text, count_text}
+use Rattle.qu_listed.specs.Frames.{frame_text, carried_text}
+use Rattle.qu_listed.specs.Receivers.{frame_taken}
+use Rattle.qu_listed.specs.declared.stood.Stood.{Stood}
+use Rattle.qu_listed.specs.Fetching.{noted_text, waits_text}
+use Rattle.qu_listed.specs.Rounds.{stood_before, rounds_text}
+use Rattle.qu_listed.specs.World.{followed, world_behind}
 
 -- ---- the line of a letter
 

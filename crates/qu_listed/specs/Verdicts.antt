@@ -13,7 +13,7 @@ use Rattle.qu_frames.specs.declared.verdict.Refusal.TheVariants.{HistoryFull, Th
 use Rattle.qu_frames.specs.declared.verdict.Verdict.{Verdict}
 use Rattle.qu_frames.specs.declared.verdict.Verdict.TheVariants.{Done, Told, Already, Mended, Refused}
 use Rattle.qu_print.specs.Words.{answer_text}
-use Rattle.qu_listing.specs.Names.{party_text, object_text}
+use Rattle.qu_listed.specs.Names.{party_text, object_text}
 
 -- ---- stamps
 

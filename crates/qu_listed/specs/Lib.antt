@@ -1,0 +1,9 @@
+pub mod Digests
+pub mod Names
+pub mod Verdicts
+pub mod Frames
+pub mod Receivers
+pub mod World
+pub mod Fetching
+pub mod Rounds
+pub mod Events
