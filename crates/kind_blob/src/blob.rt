@@ -14,7 +14,7 @@ use std::marker::Model;
 pub const TOO_LONG: u8 = 5;
 
 /// At most `CONTENT_LIMIT` bytes, first none, which contracts see as the list of them.
-#[derive(Debug, Drop)]
+#[derive(Drop)]
 pub struct Blob {
     content: List<u8>,
 }
@@ -28,7 +28,7 @@ impl Model for Blob {
 }
 
 /// What changes a blob; it answers the new length, or is refused as `TOO_LONG`.
-#[derive(Clone, Debug, Drop, PartialEq, Eq)]
+#[derive(Clone, Drop, PartialEq, Eq)]
 pub enum BlobUpdate {
     /// Puts these bytes in the place of those that are there.
     Put(List<u8>),
@@ -37,7 +37,7 @@ pub enum BlobUpdate {
 }
 
 /// What is asked of a blob.
-#[derive(Clone, Copy, Debug, PartialEq, Eq)]
+#[derive(Clone, Copy, PartialEq, Eq)]
 pub enum BlobQuery {
     /// All its bytes.
     Cat,

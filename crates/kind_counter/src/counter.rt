@@ -13,7 +13,7 @@ pub const OVER: u8 = 3;
 pub const UNDER: u8 = 4;
 
 /// A number below 2^64, first 0, which contracts see as that number.
-#[derive(Clone, Copy, Debug)]
+#[derive(Clone, Copy)]
 pub struct Counter {
     number: u64,
 }
@@ -45,7 +45,7 @@ impl Counter {
 }
 
 /// What changes a counter; it answers the new number.
-#[derive(Clone, Copy, Debug, PartialEq, Eq)]
+#[derive(Clone, Copy, PartialEq, Eq)]
 pub enum CounterUpdate {
     /// Adds, and is refused as `OVER`.
     Add(u64),
@@ -54,7 +54,7 @@ pub enum CounterUpdate {
 }
 
 /// What is asked of a counter.
-#[derive(Clone, Copy, Debug, PartialEq, Eq)]
+#[derive(Clone, Copy, PartialEq, Eq)]
 pub enum CounterQuery {
     /// Its number.
     Read,

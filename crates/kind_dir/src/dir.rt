@@ -16,7 +16,7 @@ use std::marker::Model;
 /// At most `ENTRIES_LIMIT` names, by rising bytes, each with a number; first none.
 ///
 /// Contracts see it as the list of its entries.
-#[derive(Debug, Drop)]
+#[derive(Drop)]
 pub struct Dir {
     entries: List<(List<u8>, u64)>,
 }
@@ -33,7 +33,7 @@ impl Model for Dir {
 }
 
 /// What changes a directory; it answers how many entries there are then.
-#[derive(Clone, Debug, Drop, PartialEq, Eq)]
+#[derive(Clone, Drop, PartialEq, Eq)]
 pub enum DirUpdate {
     /// Adds an entry: a new name, and its number.
     ///
@@ -44,7 +44,7 @@ pub enum DirUpdate {
 }
 
 /// What is asked of a directory.
-#[derive(Clone, Debug, Drop, PartialEq, Eq)]
+#[derive(Clone, Drop, PartialEq, Eq)]
 pub enum DirQuery {
     /// The number of a name; refused as `MISSING`.
     Find(List<u8>),

@@ -32,8 +32,8 @@ use Rattle.qu_fitting.proofs.FitAccepted.{version_fits}
 use Rattle.qu_fitting.proofs.FitRequests.{blank_sized}
 use Rattle.qu_fitting.proofs.FitVersions.{version-spelled}
 use Rattle.qu_client.specs.declared.state.ClientState.{ClientState}
-use Rattle.qu_client.specs.declared.work.Work.{Work}
-use Rattle.qu_client.specs.declared.whom.Whom.{Whom}
+use Rattle.qu_counting.specs.declared.work.Work.{Work}
+use Rattle.qu_counting.specs.declared.whom.Whom.{Whom}
 use Rattle.qu_client.specs.Rounds.{request_of, requests}
 use Rattle.qu_client.proofs.Sent.{each_letter}
 use Rattle.qu_claims.specs.Carried.{Carries}

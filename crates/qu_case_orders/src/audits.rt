@@ -4,10 +4,10 @@ ghost use Rattle.std.specs.Prelude.{IfOk};
 ghost use Rattle.qu_world.specs.Run.{IsRun, IsSetup};
 
 use super::points::points;
+use qu_audit::audit;
 use qu_base::{ClientId, List, NoMemory, Party};
 use qu_case_forms::{Case, Named, NoAnswer, party};
 use qu_case_runs::{make_lines, script_of, setup_and_lines, start};
-use qu_premise::audit;
 use qu_trace::{DecodedTrace, Premises, Setup, Trace};
 use qu_world::World;
 use std::alloc::{AllocError, Global};

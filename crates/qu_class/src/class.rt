@@ -12,7 +12,7 @@ use qu_history::Sets;
 use qu_stamp::{Candidate, Stamp};
 
 /// What the histories of an object tell of it, and with it how it can be repaired.
-#[derive(Clone, Copy, Debug, PartialEq, Eq)]
+#[derive(Clone, Copy, PartialEq, Eq)]
 pub enum Class {
     /// A quorum holds this candidate, and none is later: an operation may rest upon it.
     Method(Candidate),

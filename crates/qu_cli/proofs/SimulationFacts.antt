@@ -1,8 +1,8 @@
 -- What is to be told of a script: of its whole run, of the run up to a refusal, or of a text that is no script.
 use Rattle.std.proofs.Common.{◌≡◌, false, Result, Ok, Err, ℕ, List, [], ◌++◌, None, Some, refl, sym, ap, ◌∙◌, subst}
-use Rattle.qu_language.specs.declared.bad.Bad.{Bad}
+use Rattle.qu_script_words.specs.declared.bad.Bad.{Bad}
+use Rattle.qu_script_words.specs.Meaning.{then_good}
 use Rattle.qu_language.specs.declared.line.Script.{Script}
-use Rattle.qu_language.specs.Meaning.{then_good}
 use Rattle.qu_language.specs.Script.{script_of}
 use Rattle.qu_script.specs.declared.run.Played.{Played}
 use Rattle.qu_script.specs.Events.{whole_run, played_of, run_of, sim_of}

@@ -9,7 +9,7 @@ use Rattle.qu_cli.specs.declared.output.Output.TheVariants as output
 use Rattle.qu_cli.specs.declared.output.NoOutput.{NoOutput}
 use Rattle.qu_cli.specs.declared.output.NoOutput.TheVariants as no_output
 use Rattle.qu_cli.specs.declared.report.Report.{Report}
-use Rattle.qu_cli.specs.Transfer.{Writes, WritesShort, WritesOrFails}
+use Rattle.qu_transfer.specs.Transfer.{Writes, WritesShort, WritesOrFails}
 use Rattle.qu_cli.specs.Ends.{EndsBad, EndsShort, EndsDone, IsPromised, HasScript, IsTraced, IsRefused, IsComplete}
 use Rattle.qu_cli.specs.Output.{IsWhole, Outputs, TellsRefusal, HasNoOutput, Tears}
 use Rattle.qu_cli.specs.Told.{IsWrittenOut, IsTold}

@@ -17,7 +17,7 @@ use Rattle.qu_print.specs.Report.{report_of}
 use Rattle.qu_print.specs.Summary.{summary_of}
 use Rattle.qu_listed.specs.Digests.{digests_text, letter_bytes_text}
 use Rattle.qu_listed.specs.Events.{events_text}
-use Rattle.qu_language.specs.declared.bad.Bad.{Bad}
+use Rattle.qu_script_words.specs.declared.bad.Bad.{Bad}
 use Rattle.qu_language.specs.declared.line.Script.{Script}
 use Rattle.qu_language.specs.Called.{calls_said}
 use Rattle.qu_language.specs.Script.{script_of}
@@ -29,7 +29,7 @@ use Rattle.qu_words.specs.declared.command.Command.TheVariants.{Sim, Live, SimGe
 use Rattle.qu_words.specs.declared.command.Telling.{Telling}
 use Rattle.qu_words.specs.declared.command.Telling.TheVariants.{Operations, Events, Digests, Bytes, Summary}
 use Rattle.qu_cli.specs.Refusal.{bad_text}
-use Rattle.qu_cli.specs.Transfer.{TakesScript, Writes, WritesShort, WritesOrFails}
+use Rattle.qu_transfer.specs.Transfer.{TakesScript, Writes, WritesShort, WritesOrFails}
 
 -- ---- what a command makes of a script
 

@@ -1,5 +1,4 @@
 pub mod Refusal
-pub mod Transfer
 pub mod Report
 pub mod Ends
 pub mod Output

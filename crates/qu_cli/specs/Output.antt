@@ -3,13 +3,13 @@ use Rattle.std.specs.Prelude.{◌≡◌, ⊤, ℕ, List}
 use Rattle.qu_gather.specs.declared.torn.LiveFail.{LiveFail}
 use Rattle.qu_gather.specs.declared.torn.LiveFail.TheVariants as fail
 use Rattle.qu_io.specs.Streams.{StreamView}
-use Rattle.qu_language.specs.declared.bad.Bad.{Bad}
+use Rattle.qu_script_words.specs.declared.bad.Bad.{Bad}
 use Rattle.qu_cli.specs.declared.output.Output.{Output}
 use Rattle.qu_cli.specs.declared.output.Output.TheVariants.{Report, Refusal}
 use Rattle.qu_cli.specs.declared.output.NoOutput.{NoOutput}
 use Rattle.qu_cli.specs.declared.output.NoOutput.TheVariants as no_output
-use Rattle.qu_cli.specs.declared.reading.NoScript.{NoScript}
-use Rattle.qu_cli.specs.declared.reading.NoScript.TheVariants as no_script
+use Rattle.qu_transfer.specs.declared.reading.NoScript.{NoScript}
+use Rattle.qu_transfer.specs.declared.reading.NoScript.TheVariants as no_script
 use Rattle.qu_words.specs.declared.command.Command.{Command}
 use Rattle.qu_words.specs.declared.command.Command.TheVariants.{Live}
 use Rattle.qu_cli.specs.Ends.{MakesText, TellsBad, IsScriptFor, Refuses, HasScript}

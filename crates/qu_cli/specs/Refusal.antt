@@ -1,9 +1,9 @@
 -- The line that tells why a script is refused.
 use Rattle.std.specs.Prelude.{ℕ, List, [], ◌∷◌, ◌++◌, codes}
 use Rattle.std.specs.Fmt.{decimal}
-use Rattle.qu_language.specs.declared.bad.Bad.{Bad}
-use Rattle.qu_language.specs.declared.bad.BadKind.{BadKind}
-use Rattle.qu_language.specs.declared.bad.BadKind.TheVariants.{TooLong, NotAscii, ExpectedBounds, ExpectedSeed, ExpectedClients, ExpectedObject, OutOfOrder, UnknownWord, WrongCount, BadNumber, BadHex, BadName, OverLimit, NoSuchActor, NoSuchObject, NotInLive, NoSuchLetter, Busy, NoRequest, TooManyEvents, TooManyBytes}
+use Rattle.qu_script_words.specs.declared.bad.Bad.{Bad}
+use Rattle.qu_script_words.specs.declared.bad.BadKind.{BadKind}
+use Rattle.qu_script_words.specs.declared.bad.BadKind.TheVariants.{TooLong, NotAscii, ExpectedBounds, ExpectedSeed, ExpectedClients, ExpectedObject, OutOfOrder, UnknownWord, WrongCount, BadNumber, BadHex, BadName, OverLimit, NoSuchActor, NoSuchObject, NotInLive, NoSuchLetter, Busy, NoRequest, TooManyEvents, TooManyBytes}
 
 abbrev pub kind_text : BadKind → List ℕ
 kind_text TooLong = codes "too long"

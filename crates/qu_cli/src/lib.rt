@@ -3,10 +3,8 @@
 
 mod answering;
 mod answering_live;
-mod limits;
 mod live;
 mod output;
-mod reading;
 mod refusal;
 mod report;
 mod script;
@@ -14,10 +12,8 @@ mod simulation;
 mod teller;
 mod telling;
 mod top;
-mod writing;
 
 pub use answering::answer;
-pub use limits::{PIECE, limits_are_these};
 pub use qu_words::{Command, Telling};
 pub use report::{End, Report};
 pub use script::{run_script, run_until_refused};

@@ -1,12 +1,11 @@
 ghost use Rattle.std.specs.Prelude.{◌≡◌, ◌≢◌, IfOk, IfErr, Err};
 ghost use Rattle.qu_io.specs.Streams.{Rose, IsCalm};
-ghost use Rattle.qu_cli.specs.Transfer.{TakesFew};
+ghost use Rattle.qu_transfer.specs.Transfer.{TakesFew};
 ghost use Rattle.qu_gen.specs.Script.{generated_script};
 ghost use Rattle.qu_words.specs.Words.{IsAlone};
 ghost use Rattle.qu_cli.specs.Ends.{ReadsNothing};
 ghost use Rattle.qu_cli.specs.Output.{IsOutput, IsWhole, Outputs};
 
-use super::reading::{NoScript, take_script};
 use super::simulation::simulate;
 use super::teller::{OperationsTeller, Teller};
 use qu_base::{List, NoMemory};
@@ -14,6 +13,7 @@ use qu_gather::Torn;
 use qu_gen::gen_script;
 use qu_io::Source;
 use qu_trace::Trace;
+use qu_transfer::{NoScript, take_script};
 use qu_words::{Command, Telling};
 use std::alloc::Global;
 
@@ -28,7 +28,7 @@ pub enum Output {
 }
 
 /// Why a command has nothing to write.
-#[derive(Debug, Drop)]
+#[derive(Drop)]
 pub enum NoOutput {
     /// A fault of the source ended a read.
     ReadFault,

@@ -5,7 +5,7 @@ use qu_gather::Torn;
 use qu_trace::Trace;
 
 /// How a run of the program ended.
-#[derive(Clone, Copy, Debug, PartialEq, Eq)]
+#[derive(Clone, Copy, PartialEq, Eq)]
 pub enum End {
     /// The whole text was written.
     Done,
@@ -41,7 +41,7 @@ impl End {
 }
 
 /// What a run of the program leaves beside its output.
-#[derive(Debug, Drop)]
+#[derive(Drop)]
 pub struct Report {
     /// The exit status.
     pub status: u8,

@@ -1,6 +1,6 @@
 ghost use Rattle.std.specs.Prelude.{◌≡◌, IfOk};
 ghost use Rattle.qu_world.specs.Run.{IsRun, IsSetup};
-ghost use Rattle.qu_language.specs.Meaning.{IsAsMeant};
+ghost use Rattle.qu_script_words.specs.Meaning.{IsAsMeant};
 ghost use Rattle.qu_script.specs.Events.{played_of, run_of};
 ghost use Rattle.qu_claims.specs.Premises.{MeetsPremises};
 ghost use Rattle.qu_claims.specs.Quick.{QuickIsOneRound};

@@ -1,7 +1,7 @@
 ghost use Rattle.std.specs.Prelude.{◌≡◌, ◌≢◌, ◌≤◌, ◌↔◌, None, Some, IfSome, IsSome, map, string_bytes};
 ghost use Rattle.qu_io.specs.Streams.{Rose, IsCalm};
 ghost use Rattle.qu_words.specs.Words.{alone_command_of, command_of, usage_text};
-ghost use Rattle.qu_cli.specs.Transfer.{TakesFew, WritesOrFails};
+ghost use Rattle.qu_transfer.specs.Transfer.{TakesFew, WritesOrFails};
 ghost use Rattle.qu_cli.specs.Ends.{EndsBad, EndsShort, EndsDone, HasOneHistory, IsTraced, IsRefused, IsComplete, LeavesInput};
 
 use super::Report;

@@ -1,7 +1,7 @@
 ghost use Rattle.std.specs.Prelude.{◌≡◌, ◌≢◌, ◌≤◌, ◌↔◌, None, IfSome, map, string_bytes};
 ghost use Rattle.qu_io.specs.Streams.{Rose, IsCalm};
 ghost use Rattle.qu_words.specs.Words.{command_in, letters_commands, letters_usage_text};
-ghost use Rattle.qu_cli.specs.Transfer.{TakesFew, WritesOrFails};
+ghost use Rattle.qu_transfer.specs.Transfer.{TakesFew, WritesOrFails};
 ghost use Rattle.qu_cli.specs.Ends.{EndsBad, EndsShort, EndsDone, IsPromised, IsTraced, IsRefused, IsComplete};
 
 use super::teller::LettersTeller;

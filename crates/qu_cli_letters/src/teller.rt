@@ -4,10 +4,10 @@ ghost use Rattle.qu_words.specs.Words.{TellsLetters};
 ghost use Rattle.qu_world.specs.Run.{IsRun};
 ghost use Rattle.qu_cli.specs.Ends.{Lists, TellsRun};
 
+use qu_audit::audit;
 use qu_base::{List, NoMemory};
 use qu_cli::Teller;
 use qu_listing::{bytes_text, digests_text, events_text};
-use qu_premise::audit;
 use qu_safety::order_of;
 use qu_trace::{DecodedTrace, Trace};
 use qu_words::{Command, Telling};

@@ -1,6 +1,5 @@
 pub mod State
 pub mod Leaving
-pub mod Needed
 pub mod Rounds
 pub mod Steps
 pub mod Plans

@@ -1,5 +1,5 @@
 -- How a client begins a round of an operation, and the letters of a round.
-use Rattle.std.specs.Prelude.{ℕ, zero, suc, Bool, true, false, not, ◌+◌, if◌then◌else◌, List, [], ◌∷◌, None, Some}
+use Rattle.std.specs.Prelude.{ℕ, zero, suc, true, ◌+◌, if◌then◌else◌, List, [], ◌∷◌, None, Some}
 use Rattle.qu_base.specs.declared.party.ClientId.{ClientId}
 use Rattle.qu_base.specs.declared.party.ObjectId.{ObjectId}
 use Rattle.qu_base.specs.declared.party.Party.TheVariants as party
@@ -11,25 +11,17 @@ use Rattle.qu_frames.specs.declared.frame.Frame.TheVariants as frame
 use Rattle.qu_frames.specs.declared.frame.Letter.{Letter}
 use Rattle.qu_frames.specs.Blank.{blank_mac}
 use Rattle.qu_frames.specs.Signing.{signed}
-use Rattle.qu_pick.specs.AskedFirst.{is_preferred}
-use Rattle.qu_client.specs.declared.whom.Whom.{Whom}
-use Rattle.qu_client.specs.declared.whom.Whom.TheVariants.{All, Preferred, Others}
-use Rattle.qu_client.specs.declared.work.Phase.{Phase}
-use Rattle.qu_client.specs.declared.work.Phase.TheVariants.{Asking, Resting}
-use Rattle.qu_client.specs.declared.work.Work.{Work}
+use Rattle.qu_counting.specs.declared.whom.Whom.{Whom}
+use Rattle.qu_counting.specs.declared.whom.Whom.TheVariants.{Others}
+use Rattle.qu_counting.specs.declared.work.Phase.TheVariants.{Asking}
+use Rattle.qu_counting.specs.declared.work.Work.{Work}
+use Rattle.qu_counting.specs.Whom.{is_asked, first_object, whom_asked}
+use Rattle.qu_counting.specs.Work.{work_asking}
 use Rattle.qu_client.specs.State.{ClientState, Stepped}
-use Rattle.qu_question.specs.Named.{operation_objects}
-use Rattle.qu_question.specs.declared.question.Question.{Question}
-use Rattle.qu_question.specs.Question.{lowest_of, question_of}
+use Rattle.qu_question.specs.Question.{question_of}
 use Rattle.qu_question.specs.Marking.{marked_shown}
 
 -- ---- letters
-
--- whether a request goes to the replica with this number
-abbrev pub is_asked : ℕ → Whom → ℕ → Bool
-is_asked bounds All replica = true
-is_asked bounds (Preferred object) replica = is_preferred bounds object (record { 0 = replica })
-is_asked bounds (Others object) replica = not (is_preferred bounds object (record { 0 = replica }))
 
 -- what is asked in the round under way, before its HMAC is made
 abbrev pub request_of : ClientId → Work → Frame
@@ -52,33 +44,6 @@ abbrev pub requests : Ring → ClientId → Work → Whom → List Letter
 requests keys me work whom = requests_from keys 0 (replicas keys.bounds) me work whom
 
 -- ---- rounds
-
--- the lowest object of an operation: it tells the preferred replicas
-abbrev pub first_object : Op → ObjectId
-first_object op = lowest_of (operation_objects op)
-
--- who is asked in a round that is in this phase; in a rest no verdict counts, whoever was asked
-abbrev pub whom_in : Op → Phase → Whom
-whom_in op (Asking true) = All
-whom_in op (Asking false) = Preferred (first_object op)
-whom_in op (Resting ticks) = All
-
--- who was asked so far in the round under way
-abbrev pub whom_asked : Work → Whom
-whom_asked work = whom_in work.op work.phase
-
--- an operation in a round that asks this
-abbrev pub work_asking : Op → ℕ → ℕ → Question → Work
-work_asking op number round question = record {
-  op = op;
-  number = number;
-  round = round;
-  phase = Asking question.all;
-  named = question.named;
-  sets = question.sets;
-  body = question.body;
-  replies = [];
-}
 
 -- a round begins that asks this
 abbrev pub begins : ClientState → Work → Stepped

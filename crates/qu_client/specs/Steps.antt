@@ -1,89 +1,41 @@
 -- The client's step: a function from its state and an invocation, a text or a tick to a state,
 -- letters and possibly an end.
-use Rattle.std.specs.Prelude.{ℕ, Bool, true, false, not, ◌+◌, ◌-◌, ◌==◌, ◌&&◌, ◌||◌, nat_lt, nat_le, if◌then◌else◌, List, [], ◌∷◌, ◌++◌, length, count_by, max, Option, None, Some, is_some}
-use Rattle.std.specs.List.{list_any, range_with_len}
+use Rattle.std.specs.Prelude.{ℕ, Bool, true, false, ◌+◌, ◌-◌, ◌==◌, ◌&&◌, nat_lt, nat_le, if◌then◌else◌, List, [], Option, None, Some}
+use Rattle.std.specs.List.{list_any}
 use Rattle.qu_base.specs.declared.party.Party.TheVariants as party
 use Rattle.qu_base.specs.declared.party.ObjectId.{ObjectId}
 use Rattle.qu_base.specs.declared.party.ReplicaId.{ReplicaId}
-use Rattle.qu_base.specs.Bounds.{replicas, quorum}
 use Rattle.qu_objects.specs.declared.answer.Answer.{Answer}
 use Rattle.qu_objects.specs.declared.op.Op.{Op}
 use Rattle.qu_objects.specs.declared.op.Outcome.{Outcome}
 use Rattle.qu_objects.specs.declared.op.Outcome.TheVariants as outcome
-use Rattle.qu_frames.specs.declared.frame.Body.{Body}
-use Rattle.qu_frames.specs.declared.frame.Body.TheVariants as body
 use Rattle.qu_frames.specs.declared.frame.Frame.{Frame}
 use Rattle.qu_frames.specs.declared.frame.Frame.TheVariants as frame
 use Rattle.qu_frames.specs.declared.limits.TheConstants.{LAST_ROUND}
 use Rattle.qu_frames.specs.declared.verdict.Verdict.{Verdict}
 use Rattle.qu_frames.specs.declared.verdict.Verdict.TheVariants as verdict
 use Rattle.qu_frames.specs.declared.verdict.Refusal.TheVariants as refusal
-use Rattle.qu_frames.specs.Verdict.{same_verdict}
 use Rattle.qu_frames.specs.Signing.{brought}
 use Rattle.qu_pick.specs.Waits.{next_wait}
-use Rattle.qu_client.specs.declared.whom.Whom.{Whom}
-use Rattle.qu_client.specs.declared.work.Counted.{Counted}
-use Rattle.qu_client.specs.declared.work.Phase.{Phase}
-use Rattle.qu_client.specs.declared.work.Phase.TheVariants.{Asking, Resting}
-use Rattle.qu_client.specs.declared.work.Work.{Work}
+use Rattle.qu_counting.specs.declared.work.Counted.{Counted}
+use Rattle.qu_counting.specs.declared.work.Phase.{Phase}
+use Rattle.qu_counting.specs.declared.work.Phase.TheVariants.{Asking, Resting}
+use Rattle.qu_counting.specs.declared.work.Work.{Work}
+use Rattle.qu_counting.specs.Whom.{whom_asked}
+use Rattle.qu_counting.specs.Verdicts.{fitting, is_hopeless, is_agreed}
+use Rattle.qu_counting.specs.Work.{rest_left, counts, with_verdict}
+use Rattle.qu_counting.specs.Needed.{named_after}
 use Rattle.qu_client.specs.State.{ClientState, Stepped}
 use Rattle.qu_question.specs.Kept.{keep_all, unmarked}
 use Rattle.qu_client.specs.Leaving.{after_replies}
-use Rattle.qu_client.specs.Needed.{named_after}
 use Rattle.qu_question.specs.Named.{operation_objects}
-use Rattle.qu_client.specs.Rounds.{is_asked, whom_asked, begin_round, asks_others}
+use Rattle.qu_client.specs.Rounds.{begin_round, asks_others}
 
 abbrev pub stays : ClientState → Stepped
 stays state = record { state = state; letters = []; ended = None }
 
 abbrev pub ends : ClientState → Outcome → Stepped
 ends state outcome = record { state = record state { work = None }; letters = []; ended = Some outcome }
-
--- ---- verdicts
-
--- the answer of a verdict that fits what was asked, where it tells one: an act was performed now, or was performed
--- before; a query was answered
-abbrev pub fitting : Body → Verdict → Option Answer
-fitting (body.Act parts) (verdict.Done stamps answer) = Some answer
-fitting (body.Act parts) (verdict.Already answer) = Some answer
-fitting (body.Ask parts) (verdict.Told stamps answer) = Some answer
-fitting _ _ = None
-
--- an object was to be mended, and one was
-abbrev pub is_mended : Body → Verdict → Bool
-is_mended (body.Mend target) (verdict.Mended object stamp) = true
-is_mended _ _ = false
-
--- a verdict that fits what was asked
-abbrev pub fits : Body → Verdict → Bool
-fits body verdict = is_some (fitting body verdict) || is_mended body verdict
-
--- how many verdicts are identical to this one
-unfoldable pub identical_verdicts : Verdict → List Counted → ℕ
-identical_verdicts verdict replies = count_by (λ counted. same_verdict counted.verdict verdict) replies
-
--- the greatest number of identical verdicts that fit, among these verdicts
-unfoldable pub best_of : Body → List Counted → List Counted → ℕ
-best_of body [] replies = 0
-best_of body (counted ∷ later) replies =
-    max (if fits body counted.verdict then identical_verdicts counted.verdict replies else 0)
-    (best_of body later replies)
-
--- a verdict of the replica is among those that count
-abbrev pub has_replied : List Counted → ℕ → Bool
-has_replied replies replica = list_any (λ counted. (counted.replica).0 == replica) replies
-
--- how many replicas are silent: they were asked, and have not replied
-unfoldable pub silent : ℕ → Whom → List Counted → ℕ
-silent bounds whom replies =
-    count_by (λ replica. is_asked bounds whom replica && not (has_replied replies replica))
-    (range_with_len 0 (replicas bounds))
-
--- a quorum replied, and those that are silent can make no quorum of any verdict that fits
-abbrev pub is_hopeless : ℕ → Body → Whom → List Counted → Bool
-is_hopeless bounds body whom replies =
-    nat_le (quorum bounds) (length replies)
-    && nat_lt (best_of body replies replies + silent bounds whom replies) (quorum bounds)
 
 -- ---- the end of a round
 
@@ -125,35 +77,12 @@ abbrev pub agreed : ClientState → Work → Option Answer → Stepped
 agreed state work None = ends_round state work
 agreed state work (Some answer) = ends state (outcome.Done answer)
 
--- a verdict that fits, with which a quorum agrees
-abbrev pub is_agreed : ℕ → Body → List Counted → Verdict → Bool
-is_agreed bounds body replies verdict =
-    fits body verdict && nat_le (quorum bounds) (identical_verdicts verdict replies)
-
 -- the round whose last verdict is this one
 abbrev pub judged : ClientState → Work → Verdict → Stepped
 judged state work verdict =
     if is_agreed state.keys.bounds work.body work.replies verdict then agreed state work (fitting work.body verdict)
     else if is_hopeless state.keys.bounds work.body (whom_asked work) work.replies then ends_round state work
     else stays (record state { work = Some work })
-
-abbrev pub is_asking : Phase → Bool
-is_asking (Asking all) = true
-is_asking (Resting ticks) = false
-
--- a verdict counts where it is of the round under way, and the first of its replica
-abbrev pub counts : Work → ReplicaId → ℕ → ℕ → Bool
-counts work replica number round =
-    is_asking work.phase && (number == work.number && (round == work.round && not (has_replied work.replies replica.0)))
-
--- the verdicts that count, with one more
-abbrev pub with_reply : List Counted → ReplicaId → Verdict → List (ObjectId × ReplicaId) → List Counted
-with_reply replies replica verdict culled =
-    replies ++ (record { replica = replica; verdict = verdict; culled = culled }) ∷ []
-
--- an operation with a verdict more
-abbrev pub with_verdict : Work → ReplicaId → Verdict → List (ObjectId × ReplicaId) → Work
-with_verdict work replica verdict culled = record work { replies = with_reply work.replies replica verdict culled }
 
 abbrev pub counted_in : ClientState → Option Work → ReplicaId → ℕ → ℕ → Verdict → List (ObjectId × ReplicaId) → Stepped
 counted_in state None replica number round verdict culled = stays state
@@ -201,12 +130,7 @@ ticked state (Some work) = ticked_in state work work.phase
 abbrev pub client_tick : ClientState → Stepped
 client_tick state = ticked state state.work
 
--- how many ticks are left of a rest
-abbrev pub rest_left : Phase → Option ℕ
-rest_left (Asking all) = None
-rest_left (Resting ticks) = Some ticks
-
--- the same of the operation under way
+-- how many ticks are left of a rest of the operation under way
 abbrev pub rest_of : Option Work → Option ℕ
 rest_of None = None
 rest_of (Some work) = rest_left work.phase

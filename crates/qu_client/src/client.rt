@@ -7,9 +7,11 @@ ghost use Rattle.qu_client.specs.Plans.{after_turn, planned_state, planned_step}
 use super::rounds::begin_round;
 use super::steps::counted_in;
 use super::ticks::ticked_in;
-use super::{ClientState, Counted, Moved, Phase, Planned, Turn, Work};
+use super::{ClientState, Moved, Planned, Turn};
 use qu_base::{ClientId, List, NoMemory, Party};
-use qu_frames::{Frame, Letter, receive};
+use qu_counting::{Counted, Phase, Work};
+use qu_decoding::receive;
+use qu_frames::{Frame, Letter};
 use qu_objects::Op;
 use qu_pick::Backoff;
 use qu_question::{Kept, Named, keep_all, unmarked};
@@ -37,7 +39,6 @@ impl From<NoMemory> for InvokeFail {
 }
 
 /// One client. Its operations run one at a time.
-#[derive(Debug)]
 pub struct Client {
     alloc: Global,
     state: ClientState,

@@ -4,10 +4,10 @@ ghost use Rattle.qu_client.specs.Steps.{next_round, is_behind, is_rest_due, rest
 ghost use Rattle.qu_client.specs.Plans.{planned_step};
 
 use super::leaving::after_replies;
-use super::needed::named_after;
 use super::rounds::begin_round;
-use super::{ClientState, Counted, Planned, Turn, Work};
+use super::{ClientState, Planned, Turn};
 use qu_base::{List, NoMemory};
+use qu_counting::{Counted, Work, named_after};
 use qu_frames::{LAST_ROUND, Refusal, Verdict};
 use qu_objects::Outcome;
 use qu_question::{Kept, Named};

@@ -1,7 +1,7 @@
 ghost use Rattle.std.specs.Prelude.{◌≡◌, [], None, Some, IfOk};
 
-use super::{Counted, Phase, Work};
 use qu_base::{List, NoMemory};
+use qu_counting::{Counted, Phase, Work};
 use qu_frames::Letter;
 use qu_objects::Outcome;
 use qu_pick::Backoff;
@@ -9,7 +9,7 @@ use qu_question::{Kept, Named};
 use std::alloc::Global;
 
 /// What a step made: letters to send, and the end of the operation if it ended.
-#[derive(Debug, Drop)]
+#[derive(Drop)]
 pub struct Moved {
     pub letters: List<Letter>,
     pub ended: Option<Outcome>,
@@ -41,7 +41,7 @@ impl Moved {
 }
 
 /// What becomes of the operation under way.
-#[derive(Debug, Drop)]
+#[derive(Drop)]
 pub enum Turn {
     /// It stays as it is.
     Stays,
@@ -62,7 +62,7 @@ pub enum Turn {
 }
 
 /// What a step of a client will make. To carry it out takes no memory.
-#[derive(Debug, Drop)]
+#[derive(Drop)]
 pub struct Planned {
     /// What is kept from now on, where that changes. No history is copied for it.
     pub kept: Option<List<Kept>>,

@@ -3,9 +3,9 @@ ghost use Rattle.qu_client.specs.Rounds.{begins, begin_round, asks_others};
 ghost use Rattle.qu_client.specs.Plans.{planned_step};
 
 use super::letters::requests;
-use super::whom::first_object;
-use super::{ClientState, Moved, Phase, Planned, Turn, Whom, Work};
+use super::{ClientState, Moved, Planned, Turn};
 use qu_base::{List, NoMemory};
+use qu_counting::{Phase, Whom, Work, first_object};
 use qu_objects::Op;
 use qu_question::{Kept, Named, marked_shown, question_of};
 use std::alloc::Global;

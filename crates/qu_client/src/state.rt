@@ -1,11 +1,10 @@
-use super::Work;
 use qu_base::{ClientId, List};
+use qu_counting::Work;
 use qu_pick::Backoff;
 use qu_question::Kept;
 use qu_seal::KeyRing;
 
 /// What a client holds: the sealed histories that it was sent, and the operation under way.
-#[derive(Debug)]
 pub struct ClientState {
     pub me: ClientId,
     pub keys: KeyRing,

@@ -1,11 +1,13 @@
 ghost use Rattle.std.specs.Prelude.{◌≡◌, IfOk, Some};
-ghost use Rattle.qu_client.specs.Steps.{fitting, agreed, judged, with_reply, counted_in};
+ghost use Rattle.qu_counting.specs.Verdicts.{fitting};
+ghost use Rattle.qu_counting.specs.Work.{with_reply};
+ghost use Rattle.qu_client.specs.Steps.{agreed, judged, counted_in};
 ghost use Rattle.qu_client.specs.Plans.{planned_step};
 
 use super::endings::ends_round;
-use super::verdicts::{fitting, is_agreed, is_hopeless};
-use super::{ClientState, Counted, Planned, Turn, Work};
+use super::{ClientState, Planned, Turn};
 use qu_base::{List, NoMemory, ObjectId, ReplicaId};
+use qu_counting::{Counted, Work, fitting, is_agreed, is_hopeless};
 use qu_frames::Verdict;
 use qu_objects::Outcome;
 use qu_question::Kept;

@@ -10,7 +10,7 @@ use qu_base::NoMemory;
 use qu_trace::{Entry, Event, Sent, Setup};
 
 /// Where a search for a letter that waits may begin.
-#[derive(Debug, Clone, Copy)]
+#[derive(Clone, Copy)]
 pub struct Begin {
     /// The first letter that it looks at: each below it is passed over for good.
     pub letter: u64,

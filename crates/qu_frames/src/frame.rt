@@ -9,7 +9,6 @@ use qu_stamp::Stamp;
 use std::alloc::Global;
 
 /// What a request asks for.
-#[derive(Debug)]
 pub enum Body {
     Act(Act),
     Ask(Query),
@@ -52,7 +51,6 @@ impl Body {
 }
 
 /// What one party sends to another, under an HMAC of the pair's key.
-#[derive(Debug)]
 pub enum Frame {
     /// A client's operation, by its number and round, upon the histories that the client was shown.
     Request {
@@ -262,7 +260,6 @@ fn fetched_copy(
 }
 
 /// The bytes of a frame on their way.
-#[derive(Debug)]
 pub struct Letter {
     pub from: Party,
     pub to: Party,

@@ -5,7 +5,7 @@ use qu_objects::Op;
 use std::alloc::Global;
 
 /// Names the letter at a place, from 0, of the step of the actor `from` with this ticket.
-#[derive(Clone, Copy, Debug, PartialEq, Eq)]
+#[derive(Clone, Copy, PartialEq, Eq)]
 pub struct LetterName {
     pub from: Party,
     pub ticket: u64,
@@ -13,7 +13,6 @@ pub struct LetterName {
 }
 
 /// What an actor makes a step on.
-#[derive(Debug)]
 pub enum Input {
     /// The bytes of a frame, with the name of the letter that brought them.
     Frame(LetterName, List<u8>),

@@ -2,7 +2,6 @@
 #![tactic(auto)]
 
 mod blank;
-mod decoding;
 mod formats;
 mod frame;
 mod input;
@@ -17,12 +16,13 @@ mod writing_frame;
 mod writing_verdict;
 
 pub use blank::blank_mac;
-pub use decoding::{decode, encode};
 pub use formats::formats_are_codes;
 pub use frame::{Body, Frame, Letter};
 pub use input::{Input, LetterName};
 pub use limits::{CULLED_LIMIT, LAST_ROUND, TEXT_LIMIT, limits_are_these};
 pub use reading::{Reading, said_again};
+pub use reading_frame::frame_at;
 pub use refusal_number::refusal_numbers_are_these;
-pub use signing::{before_mac, receive, text_digest, with_mac};
+pub use signing::{before_mac, text_digest, with_mac};
 pub use verdict::{ClassCode, Refusal, Verdict};
+pub use writing_frame::encode;

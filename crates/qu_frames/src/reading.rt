@@ -4,8 +4,8 @@ ghost use Rattle.qu_frames.specs.Decoding.{decoded};
 ghost use Rattle.qu_frames.specs.Signing.{before_mac, brought};
 ghost use Rattle.qu_frames.specs.Reading.{is_request, own_mac, request_with};
 
-use super::{Body, Frame, before_mac, decode, text_digest};
-use qu_base::{ClientId, Cursor, Digest, List, NoMemory, Party, ReadFail};
+use super::{Body, Frame, before_mac, text_digest};
+use qu_base::{ClientId, Cursor, Digest, List, NoMemory, Party};
 use qu_history::DigestedSets;
 use qu_seal::KeyRing;
 use std::alloc::Global;
@@ -13,7 +13,6 @@ use std::marker::Model;
 
 /// A request as a text says it, with the digests by which its HMACs are verified. Texts that differ in their last
 /// 32 bytes alone say the same, so that one reading serves all replicas to which a client sends the request.
-#[derive(Debug)]
 pub struct Reading {
     /// The bytes before the HMAC.
     front: List<u8>,
@@ -70,21 +69,9 @@ impl Model for Reading {
 }
 
 impl Reading {
-    /// The request of a text. None exactly of a text that is decoded to no request.
-    pub fn of(alloc: Global, text: &[u8]) -> Result<Option<Reading>, NoMemory>
-        ensures none { IfOk result (λ found. IsNone found ↔ is_request (decoded text.now) ≡ false) }
-        ensures front { IfOk result (λ found. IfSome found (λ reading. reading.front ≡ before_mac text.now)) }
-    {
-        match decode(alloc, text) {
-            Ok(frame) => Reading::of_frame(alloc, &frame, text),
-            Err(ReadFail::Bad(_)) => Ok(None),
-            Err(ReadFail::NoMemory) => Err(NoMemory),
-        }
-    }
-
     /// The request of a frame, where this is its text. None exactly of another frame.
     #[tactic(auto, using(crate::proofs::Readings::request_is_read))]
-    fn of_frame(alloc: Global, frame: &Frame, text: &[u8]) -> Result<Option<Reading>, NoMemory>
+    pub fn of_frame(alloc: Global, frame: &Frame, text: &[u8]) -> Result<Option<Reading>, NoMemory>
         requires { decoded text.now ≡ Ok frame.now }
         ensures none { IfOk result (λ found. IsNone found ↔ is_request (decoded text.now) ≡ false) }
         ensures front { IfOk result (λ found. IfSome found (λ reading. reading.front ≡ before_mac text.now)) }

@@ -13,7 +13,7 @@ use std::alloc::Global;
 
 /// The next frame: its version, its kind, and the fields of this kind.
 #[tactic(auto, unfolding(crate::specs::Formats::frame_form))]
-pub(crate) fn frame_at(alloc: Global, text: &mut Cursor) -> Result<Frame, ReadFail>
+pub fn frame_at(alloc: Global, text: &mut Cursor) -> Result<Frame, ReadFail>
     ensures { Gives frame_form result text.old text.new }
 {
     let start = text.ahead();

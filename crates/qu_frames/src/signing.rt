@@ -1,9 +1,9 @@
 //! Frames whose HMAC their sender makes for one receiver.
 ghost use Rattle.std.specs.Prelude.{◌≡◌, ◌++◌, IfOk};
-ghost use Rattle.qu_frames.specs.Signing.{sender, mac_of, before_mac, text_digest, signed, is_signed, brought};
+ghost use Rattle.qu_frames.specs.Signing.{sender, mac_of, before_mac, text_digest, signed, is_signed};
 
-use super::{Frame, decode, encode};
-use qu_base::{Digest, List, NoMemory, Outbytes, Party, ReadFail};
+use super::{Frame, encode};
+use qu_base::{Digest, List, NoMemory, Outbytes, Party};
 use qu_seal::{FRAME_TAG, KeyRing, digest};
 use std::alloc::Global;
 
@@ -48,24 +48,6 @@ impl Frame {
             | Frame::Fetch { mac, .. }
             | Frame::Fetched { mac, .. } => mac,
         }
-    }
-}
-
-/// The frame that a text brings to a party: the one that is decoded, where its HMAC is right for the
-/// party. None of any other text.
-#[tactic(auto, unfolding(crate::specs::Signing::brought))]
-pub fn receive(
-    alloc: Global,
-    keys: &KeyRing,
-    me: Party,
-    text: &[u8],
-) -> Result<Option<Frame>, NoMemory>
-    ensures { IfOk result (λ frame. frame ≡ brought keys.now me text.now) }
-{
-    match decode(alloc, text) {
-        Ok(frame) if frame.is_signed(keys, me, text) => Ok(Some(frame)),
-        Ok(_) | Err(ReadFail::Bad(_)) => Ok(None),
-        Err(ReadFail::NoMemory) => Err(NoMemory),
     }
 }
 

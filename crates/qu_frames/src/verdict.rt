@@ -43,7 +43,7 @@ pub enum Refusal {
 }
 
 /// What a replica answers to a request.
-#[derive(Debug, PartialEq, Eq)]
+#[derive(PartialEq, Eq)]
 pub enum Verdict {
     /// The act was performed: the stamps of its candidates, and the answer.
     Done {

@@ -1,5 +1,5 @@
 //! Frames as bytes, by the formats of `specs/Formats.antt`.
-ghost use Rattle.std.specs.Prelude.{◌≡◌, ◌++◌, ℕ, List as Sequence, OnOk};
+ghost use Rattle.std.specs.Prelude.{◌≡◌, ◌++◌, ℕ, List as Sequence, IfOk, OnOk};
 ghost use Rattle.std.specs.List.{flat_map};
 ghost use Rattle.std.specs.Int.{w8, w16, w64, to_be_bytes};
 ghost use Rattle.qu_base.specs.declared.party.ObjectId.{ObjectId as Object};
@@ -14,10 +14,23 @@ use qu_base::{ClientId, List, NoMemory, ObjectId, Outbytes, ReplicaId};
 use qu_history::{Sealed, Sets, write_sets, write_shown};
 use qu_objects::{write_act, write_query, write_state};
 use qu_stamp::{Stamp, write_stamp};
+use std::alloc::Global;
+
+/// Room for the bytes of most frames.
+const FRAME_ROOM: usize = 1 << 15;
+
+/// The one spelling of a frame.
+pub fn encode(alloc: Global, frame: &Frame) -> Result<List<u8>, NoMemory>
+    ensures { IfOk result (λ text. text ≡ frame_form.spell frame.now) }
+{
+    let mut out = Outbytes::with_room(alloc, FRAME_ROOM)?;
+    append_frame(frame, &mut out)?;
+    Ok(out.done())
+}
 
 /// Appends a frame.
 #[tactic(auto, unfolding(crate::specs::Formats::frame_form), using(crate::proofs::Pieces::frame_written))]
-pub(crate) fn append_frame(frame: &Frame, out: &mut Outbytes) -> Result<(), NoMemory>
+fn append_frame(frame: &Frame, out: &mut Outbytes) -> Result<(), NoMemory>
     ensures { OnOk result (out.new ≡ out.old ++ frame_form.spell frame.now) }
 {
     out.u8(1)?;

@@ -3,7 +3,6 @@ use qu_post::Filed;
 use qu_replay::KeptStep;
 
 /// What does not fit of what the threads of a run left behind.
-#[derive(Debug)]
 pub enum Torn {
     /// Behind the lock of one actor stands another one.
     Moved {
@@ -39,7 +38,7 @@ impl Drop for Torn {
 }
 
 /// Why a run on threads gives no trace.
-#[derive(Debug, Drop)]
+#[derive(Drop)]
 pub enum LiveFail {
     Torn(Torn),
     NoMemory,

@@ -1,10 +1,11 @@
 use qu_base::NoMemory;
-use qu_language::{BadKind, LineFail, Phase, Words, cut_words};
+use qu_language::Phase;
 use qu_notation::cut_line;
+use qu_script_words::{BadKind, LineFail, Words, cut_words};
 use std::alloc::Global;
 
 /// A line that is refused while a script is read.
-#[derive(Clone, Copy, Debug)]
+#[derive(Clone, Copy)]
 pub struct Place<'a> {
     /// The first word of the line.
     pub first: &'a [u8],

@@ -1,4 +1,4 @@
-use qu_language::BadKind;
+use qu_script_words::BadKind;
 
 /// What has to be so where a script is refused for this.
 pub fn rule_of(kind: BadKind) -> &'static str {

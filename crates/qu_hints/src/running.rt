@@ -2,7 +2,8 @@
 
 use super::rules::rule_of;
 use qu_base::NoMemory;
-use qu_language::{Bad, BadKind, Line, Script};
+use qu_language::{Line, Script};
+use qu_script_words::{Bad, BadKind};
 use qu_trace::Trace;
 use std::alloc::Global;
 

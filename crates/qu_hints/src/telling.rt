@@ -2,7 +2,7 @@ use super::forms::{FIRST_WORDS, form_of};
 use super::place::{Place, place_in};
 use super::rules::rule_of;
 use qu_base::NoMemory;
-use qu_language::Bad;
+use qu_script_words::Bad;
 use std::alloc::Global;
 use std::str;
 

@@ -12,7 +12,7 @@ use qu_seal::{HISTORY_TAG, KeyRing, digest};
 use std::alloc::Global;
 
 /// What a replica makes of sets: those of the entries whose HMAC for it is right, and which others there were.
-#[derive(Debug, Drop)]
+#[derive(Drop)]
 pub struct Culled {
     pub sets: Sets,
     pub left: List<(ObjectId, ReplicaId)>,

@@ -13,7 +13,7 @@ use std::marker::Model;
 
 /// Sets with the digests that are made of them: that of each history, and that of the whole sets. They are made
 /// once, however many replicas look at the sets.
-#[derive(Debug, Drop)]
+#[derive(Drop)]
 pub struct DigestedSets {
     sets: Sets,
     histories: List<List<Digest>>,

@@ -36,7 +36,7 @@ impl From<NoMemory> for AddFail {
 }
 
 /// What one replica accepted of one object, from the opening candidate on: stamps rise strictly.
-#[derive(Debug, Drop)]
+#[derive(Drop)]
 pub struct History {
     object: ObjectId,
     replica: ReplicaId,

@@ -5,7 +5,6 @@ use qu_base::{List, NoMemory};
 use std::alloc::Global;
 
 /// A history, and its HMACs: one for each replica, by which that replica knows that it stood so.
-#[derive(Debug)]
 pub struct Sealed {
     pub history: History,
     pub macs: List<[u8; 32]>,

@@ -8,14 +8,13 @@ use std::alloc::Global;
 use std::marker::Model;
 
 /// The sealed histories of one object that some replicas showed, at most one of each, by rising replica.
-#[derive(Debug, Drop)]
+#[derive(Drop)]
 pub struct SetOf {
     pub object: ObjectId,
     pub entries: List<Sealed>,
 }
 
 /// One to eight objects in rising order, each with the histories that some replicas showed of it. Copies share them.
-#[derive(Debug)]
 pub struct Sets {
     objects: Shared<List<SetOf>>,
 }

@@ -5,7 +5,7 @@ use super::Failed;
 use qu_base::List;
 
 /// Which calls of an object in memory fail, and how many bytes a call moves at most.
-#[derive(Debug, Drop)]
+#[derive(Drop)]
 pub struct Plan {
     pub largest: usize,
     pub failing: List<u64>,

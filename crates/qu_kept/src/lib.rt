@@ -4,11 +4,10 @@
 
 mod copying;
 mod links;
-mod performing;
 mod repeats;
 mod rows;
 
 pub use copying::copied;
-pub use performing::{Performed, perform};
+pub use links::links_after;
 pub use repeats::{Standing, standing_of};
 pub use rows::{row_of, with_row};

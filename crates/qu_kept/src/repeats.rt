@@ -11,7 +11,7 @@ use qu_objects::{Act, Answer, KeptRow, Method, ObjState};
 use std::alloc::Global;
 
 /// How an act of a client stands to what the versions of its objects keep of this client.
-#[derive(Debug, Drop, PartialEq, Eq)]
+#[derive(Drop, PartialEq, Eq)]
 pub enum Standing {
     /// Its number is above all that are kept: it was not performed on these versions.
     Fresh,

@@ -6,7 +6,7 @@ use qu_base::ClientId;
 use qu_frames::Frame;
 
 /// The round of an operation to which an answer was sent.
-#[derive(Clone, Copy, Debug, PartialEq, Eq)]
+#[derive(Clone, Copy, PartialEq, Eq)]
 pub struct Answered {
     pub client: ClientId,
     pub number: u64,

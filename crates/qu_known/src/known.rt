@@ -28,7 +28,6 @@ pub struct Learnt {
 }
 
 /// The candidates of each object at one replica.
-#[derive(Debug)]
 pub struct ShownRow {
     objects: Vec<List<Candidate>>,
 }
@@ -155,7 +154,6 @@ fn learn(
 }
 
 /// The candidates of each replica.
-#[derive(Debug)]
 pub struct Known {
     rows: Vec<ShownRow>,
 }

@@ -2,7 +2,7 @@ use qu_base::ObjectId;
 use qu_stamp::Candidate;
 
 /// A candidate of an object that some replica accepted.
-#[derive(Clone, Copy, Debug)]
+#[derive(Clone, Copy)]
 pub struct Tracked {
     pub object: ObjectId,
     pub candidate: Candidate,

@@ -11,9 +11,13 @@ use Rattle.qu_base.specs.declared.party.Party.TheVariants as party
 use Rattle.qu_objects.specs.declared.op.Op.{Op}
 use Rattle.qu_trace.specs.Faulty.{is_faulty}
 use Rattle.qu_trace.specs.declared.trace.Setup.{Setup}
-use Rattle.qu_language.specs.declared.bad.BadKind.{BadKind}
-use Rattle.qu_language.specs.declared.bad.BadKind.TheVariants.{NoSuchActor, OverLimit, NotInLive, UnknownWord, OutOfOrder, ExpectedObject}
-use Rattle.qu_language.specs.declared.bad.ScriptFail.{ScriptFail}
+use Rattle.qu_script_words.specs.declared.bad.BadKind.{BadKind}
+use Rattle.qu_script_words.specs.declared.bad.BadKind.TheVariants.{NoSuchActor, OverLimit, NotInLive, UnknownWord, OutOfOrder, ExpectedObject}
+use Rattle.qu_script_words.specs.declared.bad.ScriptFail.{ScriptFail}
+use Rattle.qu_script_words.specs.Meaning.{then_good, at_line, IsAsMeant}
+use Rattle.qu_script_words.specs.Parties.{client_by_number, if_correct, correct_client_rule}
+use Rattle.qu_script_words.specs.Rules.{number_rule}
+use Rattle.qu_script_words.specs.Words.{ascii_word, next_of, words_in}
 use Rattle.qu_language.specs.declared.limits.TheConstants.{MOST_CALLS}
 use Rattle.qu_language.specs.declared.line.Line.{Line}
 use Rattle.qu_language.specs.declared.line.Line.TheVariants.{Call}
@@ -22,14 +26,10 @@ use Rattle.qu_language.specs.declared.phase.Phase.{Phase}
 use Rattle.qu_language.specs.declared.phase.Phase.TheVariants.{NeedsBounds, NeedsSeed, NeedsClients, Body}
 use Rattle.qu_language.specs.Called.{call_of, calls_said, MayCall, MayAllCall}
 use Rattle.qu_language.specs.Event.{call_rule, live_rule, is_event_word}
-use Rattle.qu_language.specs.Meaning.{then_good, at_line, IsAsMeant}
 use Rattle.qu_language.specs.Operation.{op_rule}
-use Rattle.qu_language.specs.Parties.{client_by_number, if_correct, correct_client_rule}
 use Rattle.qu_language.specs.Phase.{has_none, opening_script, with_kind, with_liar, with_line, object_said, faulty_said, event_said, is_opening_word, later_rule, body_rule, said_rule, is_comment, comment_of, line_rule, end_rule}
-use Rattle.qu_language.specs.Rules.{number_rule}
 use Rattle.qu_language.specs.Script.{lines_rule}
 use Rattle.qu_language.specs.Setup.{object_line, faulty_line}
-use Rattle.qu_language.specs.Words.{ascii_word, next_of, words_in}
 
 pub calls_more : (lines : List (ℕ × Line)) (line : ℕ × Line)
     → calls_said lines ++ call_of line.1 ≡ calls_said (lines ++ line ∷ [])

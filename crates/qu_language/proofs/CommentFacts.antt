@@ -2,12 +2,12 @@
 use Rattle.std.proofs.Common.{◌≡◌, ℕ, Bool, true, false, cond, List, [], ◌∷◌, Result, Ok, Err, refl, sym, ap}
 use Rattle.std.specs.Prelude.{◌&&◌}
 use Rattle.std.specs.List.{list_all}
-use Rattle.qu_language.specs.declared.bad.BadKind.{BadKind}
-use Rattle.qu_language.specs.declared.bad.BadKind.TheVariants.{NotAscii}
-use Rattle.qu_language.specs.Meaning.{then_good}
+use Rattle.qu_script_words.specs.declared.bad.BadKind.{BadKind}
+use Rattle.qu_script_words.specs.declared.bad.BadKind.TheVariants.{NotAscii}
+use Rattle.qu_script_words.specs.Meaning.{then_good}
+use Rattle.qu_script_words.specs.Words.{is_nil, is_ascii_word, next_of}
+use Rattle.qu_script_words.proofs.ListedFacts.{rest_of}
 use Rattle.qu_language.specs.Phase.{comment_of}
-use Rattle.qu_language.specs.Words.{is_nil, is_ascii_word, next_of}
-use Rattle.qu_language.proofs.ListedFacts.{rest_of}
 
 abbrev before : List (List ℕ) → List ℕ → Result (List ℕ × List (List ℕ)) BadKind
 before words word = Ok (word, words)

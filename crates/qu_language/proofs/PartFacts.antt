@@ -7,16 +7,16 @@ use Rattle.qu_base.specs.declared.limits.TheConstants.{OBJECT_IDS}
 use Rattle.qu_base.specs.declared.party.ObjectId.{ObjectId}
 use Rattle.qu_objects.specs.declared.limits.TheConstants.{MOST_PARTS}
 use Rattle.qu_objects.specs.Parts.{is_object_from, are_objects_from, are_parts, is_sized_method, is_sized_ask, are_sized}
-use Rattle.qu_language.specs.declared.bad.BadKind.{BadKind}
-use Rattle.qu_language.specs.declared.bad.LineFail.{LineFail}
-use Rattle.qu_language.specs.declared.bad.LineFail.TheVariants as fails
+use Rattle.qu_script_words.specs.declared.bad.BadKind.{BadKind}
+use Rattle.qu_script_words.specs.declared.bad.LineFail.{LineFail}
+use Rattle.qu_script_words.specs.declared.bad.LineFail.TheVariants as fails
+use Rattle.qu_script_words.specs.Meaning.{then_good, LineFails, IsReadAs}
+use Rattle.qu_script_words.specs.Words.{end_of}
 use Rattle.qu_language.specs.declared.operation.Part.{Part}
 use Rattle.qu_language.specs.declared.operation.Part.TheVariants.{Does, Asks}
 use Rattle.qu_language.specs.declared.parts.Parts.{Parts}
-use Rattle.qu_language.specs.Meaning.{then_good, LineFails, IsReadAs}
 use Rattle.qu_language.specs.Operation.{joined_part, more_parts}
 use Rattle.qu_language.specs.Parts.{are_all_below, are_below, is_sized_part, with_part, AreGood, AreBuilt}
-use Rattle.qu_language.specs.Words.{end_of}
 
 -- so many parts were read and may be followed by one more: it is read, or nothing where no word is left
 pub more_step : (count objects : ℕ) (parts next : Parts) (words rest : List (List ℕ)) → count < MOST_PARTS

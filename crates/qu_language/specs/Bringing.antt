@@ -3,16 +3,16 @@ use Rattle.std.specs.Prelude.{ℕ, List, [], ◌∷◌, Option, None, Some, Resu
 use Rattle.std.specs.Str.{bytes_eq}
 use Rattle.qu_base.specs.declared.party.ReplicaId.{ReplicaId}
 use Rattle.qu_trace.specs.declared.trace.Setup.{Setup}
-use Rattle.qu_language.specs.declared.bad.BadKind.{BadKind}
-use Rattle.qu_language.specs.declared.bad.BadKind.TheVariants.{UnknownWord, WrongCount}
+use Rattle.qu_script_words.specs.declared.bad.BadKind.{BadKind}
+use Rattle.qu_script_words.specs.declared.bad.BadKind.TheVariants.{UnknownWord, WrongCount}
+use Rattle.qu_script_words.specs.Meaning.{then_good}
+use Rattle.qu_script_words.specs.Parties.{replica_rule, client_rule, correct_replica_rule, party_from}
+use Rattle.qu_script_words.specs.Rules.{hex_rule}
+use Rattle.qu_script_words.specs.Words.{next_of, only_of, some_of}
 use Rattle.qu_language.specs.declared.line.How.{How}
 use Rattle.qu_language.specs.declared.line.How.TheVariants as how
 use Rattle.qu_language.specs.declared.line.Line.{Line}
 use Rattle.qu_language.specs.declared.line.Line.TheVariants.{Inject, Fake}
-use Rattle.qu_language.specs.Meaning.{then_good}
-use Rattle.qu_language.specs.Parties.{replica_rule, client_rule, correct_replica_rule, party_from}
-use Rattle.qu_language.specs.Rules.{hex_rule}
-use Rattle.qu_language.specs.Words.{next_of, only_of, some_of}
 
 -- `replica R HEX` or `client C HEX`
 unfoldable pub inject_rule : Setup → List (List ℕ) → Result Line BadKind

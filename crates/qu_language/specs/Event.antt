@@ -2,17 +2,17 @@
 use Rattle.std.specs.Prelude.{ℕ, nat_lt, Bool, ◌||◌, List, [], ◌∷◌, length, None, Some, Result, Ok, Err, if◌then◌else◌, codes}
 use Rattle.std.specs.Str.{bytes_eq}
 use Rattle.qu_trace.specs.declared.trace.Setup.{Setup}
-use Rattle.qu_language.specs.declared.bad.BadKind.{BadKind}
-use Rattle.qu_language.specs.declared.bad.BadKind.TheVariants.{OverLimit, UnknownWord, NotInLive}
+use Rattle.qu_script_words.specs.declared.bad.BadKind.{BadKind}
+use Rattle.qu_script_words.specs.declared.bad.BadKind.TheVariants.{OverLimit, UnknownWord, NotInLive}
+use Rattle.qu_script_words.specs.Meaning.{then_good}
+use Rattle.qu_script_words.specs.Parties.{replica_rule, correct_client_rule}
+use Rattle.qu_script_words.specs.Rules.{number_rule, ranged_rule}
+use Rattle.qu_script_words.specs.Words.{next_of, end_of, only_of, some_of}
 use Rattle.qu_language.specs.declared.limits.TheConstants.{MOST_CALLS, MOST_TICKS}
 use Rattle.qu_language.specs.declared.line.Line.{Line}
 use Rattle.qu_language.specs.declared.line.Line.TheVariants.{Call, Deliver, Flow, Hold, Free, Lose, Tick, Wake}
 use Rattle.qu_language.specs.Bringing.{inject_rule, fake_rule}
-use Rattle.qu_language.specs.Meaning.{then_good}
 use Rattle.qu_language.specs.Operation.{op_rule}
-use Rattle.qu_language.specs.Parties.{replica_rule, correct_client_rule}
-use Rattle.qu_language.specs.Rules.{number_rule, ranged_rule}
-use Rattle.qu_language.specs.Words.{next_of, end_of, only_of, some_of}
 
 -- `C OP`, of a correct client
 unfoldable pub call_rule : Setup → List (List ℕ) → Result Line BadKind

@@ -1,7 +1,3 @@
-pub mod Meaning
-pub mod Words
-pub mod Rules
-pub mod Parties
 pub mod Parts
 pub mod Operation
 pub mod Bringing

@@ -6,17 +6,17 @@ use Rattle.qu_objects.specs.declared.act.Method.TheVariants.{Add, Take, Put, App
 use Rattle.qu_objects.specs.declared.query.Ask.TheVariants.{Read, Cat, Find, All}
 use Rattle.qu_objects.specs.declared.limits.TheConstants.{MOST_PARTS}
 use Rattle.qu_objects.specs.declared.op.Op.{Op}
-use Rattle.qu_language.specs.declared.bad.BadKind.{BadKind}
-use Rattle.qu_language.specs.declared.bad.BadKind.TheVariants.{OutOfOrder, UnknownWord}
+use Rattle.qu_script_words.specs.declared.bad.BadKind.{BadKind}
+use Rattle.qu_script_words.specs.declared.bad.BadKind.TheVariants.{OutOfOrder, UnknownWord}
+use Rattle.qu_script_words.specs.Meaning.{then_good}
+use Rattle.qu_script_words.specs.Rules.{number_rule, content_rule, name_rule, object_rule}
+use Rattle.qu_script_words.specs.Words.{next_of_part, behind_plus, end_of}
 use Rattle.qu_language.specs.declared.operation.Part.{Part}
 use Rattle.qu_language.specs.declared.operation.Part.TheVariants.{Does, Asks}
 use Rattle.qu_language.specs.declared.operation.Verb.{Verb}
 use Rattle.qu_language.specs.declared.operation.Verb.TheVariants as verb
 use Rattle.qu_language.specs.declared.parts.Parts.{Parts}
-use Rattle.qu_language.specs.Meaning.{then_good}
 use Rattle.qu_language.specs.Parts.{no_parts, may_precede, are_below, with_part, op_of}
-use Rattle.qu_language.specs.Rules.{number_rule, content_rule, name_rule, object_rule}
-use Rattle.qu_language.specs.Words.{next_of_part, behind_plus, end_of}
 
 -- ---- verbs
 

@@ -5,17 +5,17 @@ use Rattle.std.specs.Str.{bytes_eq}
 use Rattle.qu_base.specs.declared.limits.TheConstants.{LAST_CLIENT, MOST_FAULTS}
 use Rattle.qu_base.specs.declared.party.Party.{Party}
 use Rattle.qu_objects.specs.declared.kind.KindName.{KindName}
-use Rattle.qu_language.specs.declared.bad.BadKind.{BadKind}
-use Rattle.qu_language.specs.declared.bad.BadKind.TheVariants.{NotAscii, ExpectedBounds, ExpectedSeed, ExpectedClients, ExpectedObject, OutOfOrder}
+use Rattle.qu_script_words.specs.declared.bad.BadKind.{BadKind}
+use Rattle.qu_script_words.specs.declared.bad.BadKind.TheVariants.{NotAscii, ExpectedBounds, ExpectedSeed, ExpectedClients, ExpectedObject, OutOfOrder}
+use Rattle.qu_script_words.specs.Meaning.{then_good}
+use Rattle.qu_script_words.specs.Rules.{number_rule, ranged_rule}
+use Rattle.qu_script_words.specs.Words.{ascii_word, is_ascii_word, only_of}
 use Rattle.qu_language.specs.declared.line.Line.{Line}
 use Rattle.qu_language.specs.declared.line.Script.{Script}
 use Rattle.qu_language.specs.declared.phase.Phase.{Phase}
 use Rattle.qu_language.specs.declared.phase.Phase.TheVariants.{NeedsBounds, NeedsSeed, NeedsClients, Body}
 use Rattle.qu_language.specs.Event.{event_rule, live_rule}
-use Rattle.qu_language.specs.Meaning.{then_good}
-use Rattle.qu_language.specs.Rules.{number_rule, ranged_rule}
 use Rattle.qu_language.specs.Setup.{IsWithin, object_line, faulty_line}
-use Rattle.qu_language.specs.Words.{ascii_word, is_ascii_word, only_of}
 
 -- ---- a script line by line
 

@@ -1,15 +1,15 @@
 -- What a text says: its script, or its first refusal. The whole text is read before anything runs.
 use Rattle.std.specs.Prelude.{ℕ, Bool, ◌+◌, nat_lt, List, [], ◌∷◌, length, Result, Err, if◌then◌else◌}
 use Rattle.qu_notation.specs.Text.{lines_of}
-use Rattle.qu_language.specs.declared.bad.Bad.{Bad}
-use Rattle.qu_language.specs.declared.bad.BadKind.TheVariants.{TooLong}
+use Rattle.qu_script_words.specs.declared.bad.Bad.{Bad}
+use Rattle.qu_script_words.specs.declared.bad.BadKind.TheVariants.{TooLong}
+use Rattle.qu_script_words.specs.Meaning.{then_good, at_line}
+use Rattle.qu_script_words.specs.Words.{words_in}
 use Rattle.qu_language.specs.declared.limits.TheConstants.{SCRIPT_LIMIT}
 use Rattle.qu_language.specs.declared.line.Script.{Script}
 use Rattle.qu_language.specs.declared.phase.Phase.{Phase}
 use Rattle.qu_language.specs.declared.phase.Phase.TheVariants.{NeedsBounds}
-use Rattle.qu_language.specs.Meaning.{then_good, at_line}
 use Rattle.qu_language.specs.Phase.{line_rule, end_rule}
-use Rattle.qu_language.specs.Words.{words_in}
 
 -- the lines of these texts, of which the first has this number, where the script was read so far. What is missing at
 -- the end is told with the number of the line that is not there

@@ -9,12 +9,12 @@ use Rattle.qu_objects.specs.declared.kind.KindName.{KindName}
 use Rattle.qu_objects.specs.declared.kind.KindName.TheVariants.{Counter, Blob, Dir}
 use Rattle.qu_trace.specs.declared.trace.Setup.{Setup}
 use Rattle.qu_trace.specs.Faulty.{is_replica}
-use Rattle.qu_language.specs.declared.bad.BadKind.{BadKind}
-use Rattle.qu_language.specs.declared.bad.BadKind.TheVariants.{OutOfOrder, UnknownWord, OverLimit}
-use Rattle.qu_language.specs.Meaning.{then_good}
-use Rattle.qu_language.specs.Parties.{replica_by_number, client_by_number}
-use Rattle.qu_language.specs.Rules.{number_rule}
-use Rattle.qu_language.specs.Words.{next_of, only_of}
+use Rattle.qu_script_words.specs.declared.bad.BadKind.{BadKind}
+use Rattle.qu_script_words.specs.declared.bad.BadKind.TheVariants.{OutOfOrder, UnknownWord, OverLimit}
+use Rattle.qu_script_words.specs.Meaning.{then_good}
+use Rattle.qu_script_words.specs.Parties.{replica_by_number, client_by_number}
+use Rattle.qu_script_words.specs.Rules.{number_rule}
+use Rattle.qu_script_words.specs.Words.{next_of, only_of}
 
 -- what every script that is read keeps to
 pub record IsWithin (setup : Setup) : Type 0 where

@@ -1,13 +1,14 @@
 ghost use Rattle.std.specs.Prelude.{◌≡◌};
 ghost use Rattle.std.specs.Result.{result_map_both};
+ghost use Rattle.qu_script_words.specs.Meaning.{IsReadAs};
 ghost use Rattle.qu_language.specs.Bringing.{inject_rule, source_from, how_from, good_rule, fake_rule};
-ghost use Rattle.qu_language.specs.Meaning.{IsReadAs};
 
-use super::listed::read_replicas;
-use super::parties::{read_client, read_correct_replica, read_party, read_replica};
-use super::rules::read_hex;
-use super::{BadKind, How, Line, LineFail, Words};
+use super::{How, Line};
 use qu_base::{Bounds, List, ReplicaId};
+use qu_script_words::{
+    BadKind, LineFail, Words, read_client, read_correct_replica, read_hex, read_party,
+    read_replica, read_replicas,
+};
 use qu_trace::Setup;
 use std::alloc::Global;
 

@@ -1,14 +1,12 @@
 ghost use Rattle.std.specs.Prelude.{◌≡◌};
+ghost use Rattle.qu_script_words.specs.Meaning.{IsReadAs};
 ghost use Rattle.qu_language.specs.Event.{call_rule, flow_rule, event_rule, is_event_word, live_rule};
-ghost use Rattle.qu_language.specs.Meaning.{IsReadAs};
 
 use super::bringing::{read_fake, read_inject};
-use super::listed::read_numbers;
 use super::operation::read_operation;
-use super::parties::read_correct_client;
-use super::rules::read_number;
 use super::ticking::read_quiet;
-use super::{BadKind, Line, LineFail, MOST_CALLS, Words};
+use super::{Line, MOST_CALLS};
+use qu_script_words::{BadKind, LineFail, Words, read_correct_client, read_number, read_numbers};
 use qu_trace::Setup;
 use std::alloc::Global;
 

@@ -7,7 +7,7 @@ use qu_trace::Setup;
 use std::alloc::Global;
 
 /// What a made reply shows, and its verdict.
-#[derive(Clone, Copy, Debug, PartialEq, Eq)]
+#[derive(Clone, Copy, PartialEq, Eq)]
 pub enum How {
     /// The histories that this correct replica has now.
     Show(ReplicaId),
@@ -18,7 +18,6 @@ pub enum How {
 }
 
 /// What a line of a script says.
-#[derive(Debug)]
 pub enum Line {
     /// A client begins an operation.
     Call(ClientId, Op),
@@ -86,7 +85,6 @@ impl Line {
 }
 
 /// A script: who takes part, and the lines behind the setup with their numbers.
-#[derive(Debug)]
 pub struct Script {
     pub setup: Setup,
     pub lines: List<(u64, Line)>,

@@ -1,20 +1,21 @@
 ghost use Rattle.std.specs.Prelude.{◌≡◌, ◌<◌, ◌+◌, ◌-◌, ℕ, length, nat_le, IfOk, IsTrue};
 ghost use Rattle.std.specs.Result.{result_map_both};
 ghost use Rattle.qu_base.specs.declared.limits.TheConstants.{CONTENT_LIMIT, NAME_LIMIT, OBJECT_IDS};
-ghost use Rattle.qu_language.specs.Meaning.{IsReadAs};
+ghost use Rattle.qu_script_words.specs.Meaning.{IsReadAs};
+ghost use Rattle.qu_script_words.specs.Rules.{number_rule, content_rule, name_rule};
 ghost use Rattle.qu_language.specs.Operation.{ask_verb_rule, argument, verb_rule, verb_behind, object_behind, called_behind, part_rule, part_behind, joined_part, more_parts, op_rule};
-ghost use Rattle.qu_language.specs.Rules.{number_rule, content_rule, name_rule};
 ghost use Rattle.qu_language.specs.Parts.{is_of_query, are_below, is_sized_part, AreBuilt};
 
 use super::parts::Parts;
-use super::rules::{read_content, read_name, read_number, read_object};
-use super::{BadKind, LineFail, Words};
 use qu_base::{List, ObjectId};
 use qu_objects::{Ask, MOST_PARTS, Method, Op};
+use qu_script_words::{
+    BadKind, LineFail, Words, read_content, read_name, read_number, read_object,
+};
 use std::alloc::Global;
 
 /// What a part of an operation does or asks, by its first word.
-#[derive(Clone, Copy, Debug, PartialEq, Eq)]
+#[derive(Clone, Copy, PartialEq, Eq)]
 pub enum Verb {
     Add,
     Take,
@@ -41,7 +42,7 @@ impl Verb {
 }
 
 /// What a part of an operation does to its object, or asks of it.
-#[derive(Debug, Drop)]
+#[derive(Drop)]
 pub enum Part {
     Does(Method),
     Asks(Ask),

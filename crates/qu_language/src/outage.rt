@@ -1,8 +1,8 @@
+ghost use Rattle.qu_script_words.specs.Meaning.{IsReadAs};
 ghost use Rattle.qu_language.specs.Event.{outage_rule};
-ghost use Rattle.qu_language.specs.Meaning.{IsReadAs};
 
-use super::listed::read_replicas;
-use super::{BadKind, Line, LineFail, Words};
+use super::Line;
+use qu_script_words::{BadKind, LineFail, Words, read_replicas};
 use qu_trace::Setup;
 use std::alloc::Global;
 

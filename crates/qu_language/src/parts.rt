@@ -10,7 +10,7 @@ use qu_objects::{Act, Ask, Method, Op, Query};
 use std::alloc::Global;
 
 /// The parts of an operation that were read so far: updates alone, or queries alone.
-#[derive(Debug, Drop)]
+#[derive(Drop)]
 pub struct Parts {
     pub updates: List<(ObjectId, Method)>,
     pub queries: List<(ObjectId, Ask)>,

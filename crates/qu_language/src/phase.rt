@@ -1,21 +1,20 @@
 ghost use Rattle.std.specs.Prelude.{◌≡◌, ◌≤◌, IfOk, codes};
 ghost use Rattle.qu_base.specs.declared.limits.TheConstants.{LAST_CLIENT, MOST_FAULTS};
-ghost use Rattle.qu_language.specs.Meaning.{IsReadAs};
+ghost use Rattle.qu_script_words.specs.Meaning.{IsReadAs};
+ghost use Rattle.qu_script_words.specs.Rules.{ranged_rule, number_rule};
 ghost use Rattle.qu_language.specs.Phase.{opening_script, with_line, object_said, faulty_said, next_line, event_said, is_opening_word, has_none, later_rule, body_rule, opening_line, said_rule, is_comment, comment_of, line_rule, end_rule, AreFaults, IsGood};
-ghost use Rattle.qu_language.specs.Rules.{ranged_rule, number_rule};
 ghost use Rattle.qu_language.specs.Setup.{IsWithin};
 
 use super::event::{read_event, read_live};
-use super::rules::{read_number, read_ranged};
 use super::setup::{read_faulty_line, read_object_line};
-use super::words::is_ascii_word;
-use super::{BadKind, Line, LineFail, Script, Words};
+use super::{Line, Script};
 use qu_base::{Bounds, LAST_CLIENT, List, MOST_FAULTS, NoMemory};
+use qu_script_words::{BadKind, LineFail, Words, read_number, read_ranged};
 use qu_trace::Setup;
 use std::alloc::Global;
 
 /// How far a script was read.
-#[derive(Debug, Drop)]
+#[derive(Drop)]
 pub enum Phase {
     /// The next line has to be `bounds B`.
     NeedsBounds,
@@ -108,7 +107,7 @@ fn is_comment(word: &[u8]) -> bool
 }
 
 /// That a comment has printable ASCII characters alone.
-#[tactic(auto, using(crate::proofs::CommentFacts::comment_facts, crate::proofs::ListedFacts::next_is_shorter))]
+#[tactic(auto, using(crate::proofs::CommentFacts::comment_facts, qu_script_words::proofs::ListedFacts::next_is_shorter))]
 fn pass_comment(words: &mut Words<'_>) -> Result<(), BadKind>
     ensures { result ≡ comment_of words.old }
 {

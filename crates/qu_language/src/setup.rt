@@ -2,14 +2,12 @@ ghost use Rattle.std.specs.Prelude.{◌≡◌, ◌≤◌, ◌+◌, ◌<◌, ◌�
 ghost use Rattle.std.specs.List.{list_all};
 ghost use Rattle.qu_base.specs.declared.limits.TheConstants.{OBJECT_IDS};
 ghost use Rattle.qu_trace.specs.Faulty.{is_replica};
+ghost use Rattle.qu_script_words.specs.Words.{only_of};
 ghost use Rattle.qu_language.specs.Setup.{kind_rule, object_in_turn, object_line, party_number, rises, rises_in_clients, faulty_replica, faulty_client, faulty_replica_rule, faulty_client_rule, faulty_line};
-ghost use Rattle.qu_language.specs.Words.{only_of};
 
-use super::parties::{client_by_number, replica_by_number};
-use super::rules::read_number;
-use super::{BadKind, Words};
 use qu_base::{OBJECT_IDS, Party};
 use qu_objects::KindName;
+use qu_script_words::{BadKind, Words, client_by_number, read_number, replica_by_number};
 use qu_trace::Setup;
 
 /// `I KIND`, behind the lines of so many objects.

@@ -1,11 +1,10 @@
 ghost use Rattle.std.specs.Prelude.{◌≡◌};
+ghost use Rattle.qu_script_words.specs.Meaning.{IsReadAs};
 ghost use Rattle.qu_language.specs.Event.{ticks_rule, tick_rule, wake_rule, quiet_rule};
-ghost use Rattle.qu_language.specs.Meaning.{IsReadAs};
 
 use super::outage::read_outage;
-use super::parties::read_correct_client;
-use super::rules::read_ranged;
-use super::{BadKind, Line, LineFail, MOST_TICKS, Words};
+use super::{Line, MOST_TICKS};
+use qu_script_words::{BadKind, LineFail, Words, read_correct_client, read_ranged};
 use qu_trace::Setup;
 use std::alloc::Global;
 

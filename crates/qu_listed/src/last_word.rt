@@ -1,5 +1,5 @@
 /// What stands last in the line of a letter.
-#[derive(Clone, Copy, Debug, PartialEq, Eq)]
+#[derive(Clone, Copy, PartialEq, Eq)]
 pub enum LastWord {
     /// The SHA-256 digest of all its bytes.
     Digest,

@@ -1,9 +1,9 @@
 //! How a client stands before an event at which it steps.
 use qu_base::ClientId;
-use qu_client::Phase;
+use qu_counting::Phase;
 
 /// Why a round is over.
-#[derive(Clone, Copy, Debug, PartialEq, Eq)]
+#[derive(Clone, Copy, PartialEq, Eq)]
 pub enum Why {
     /// A quorum agrees.
     Agreed,
@@ -14,7 +14,7 @@ pub enum Why {
 }
 
 /// The round that is under way before an event, or that ended before a rest.
-#[derive(Clone, Copy, Debug)]
+#[derive(Clone, Copy)]
 pub struct Round {
     pub number: u8,
     pub phase: Phase,
@@ -23,7 +23,7 @@ pub struct Round {
 }
 
 /// A correct client that steps at an event, before it.
-#[derive(Clone, Copy, Debug)]
+#[derive(Clone, Copy)]
 pub struct Stood {
     pub client: ClientId,
     pub round: Option<Round>,

@@ -3,7 +3,7 @@ use qu_base::Party;
 use std::marker::Model;
 
 /// The bytes that a party is offered at an event.
-#[derive(Debug, Drop)]
+#[derive(Drop)]
 pub struct Offer<'e> {
     pub to: Party,
     pub text: &'e [u8],

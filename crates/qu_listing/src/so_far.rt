@@ -16,7 +16,7 @@ use std::alloc::Global;
 use std::collections::HashMap;
 
 /// A letter that was sent, as far as its deliveries tell of it.
-#[derive(Clone, Copy, Debug)]
+#[derive(Clone, Copy)]
 pub struct Sent {
     pub to: Party,
     /// Whether its receiver takes no frame of it.

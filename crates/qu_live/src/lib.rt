@@ -2,11 +2,9 @@
 #![tactic(auto)]
 
 mod actors;
-mod gate;
 mod live;
 mod rounds;
-mod stepping;
 mod turns;
 
-pub use gate::{Gate, OpenGate};
 pub use live::run_live;
+pub use qu_stepping::{Gate, OpenGate};

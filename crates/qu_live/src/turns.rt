@@ -2,11 +2,11 @@ ghost use Rattle.std.specs.Prelude.{◌≡◌};
 
 use crate::Gate;
 use crate::actors::Locks;
-use crate::stepping::{step_client, step_replica};
 use qu_base::{ClientId, NoMemory};
 use qu_lock::RunName;
 use qu_objects::Op;
 use qu_post::Post;
+use qu_stepping::{step_client, step_replica};
 use std::alloc::Global;
 use std::sync::Wait;
 use std::thread;

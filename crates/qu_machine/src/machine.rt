@@ -3,12 +3,12 @@ ghost use Rattle.qu_objects.specs.Kind.{fresh_value};
 ghost use Rattle.qu_machine.specs.Machine.{values_at, with_values, act_answer, act_values, query_answer};
 
 use qu_base::{List, NoMemory, ObjectId};
-use qu_objects::{Act, Answer, KindName, PerformedValues, Query, Value, perform, tell_all};
+use qu_objects::{Act, Answer, KindName, Query, Value};
+use qu_performing::{PerformedValues, perform_on_values, tell_all};
 use std::alloc::Global;
 use std::marker::Model;
 
 /// Plain values, on which operations are run whole and one after another.
-#[derive(Debug)]
 pub struct Machine {
     values: Vec<Value>,
 }
@@ -49,7 +49,7 @@ impl Machine {
         ensures err { OnErr result (self.new ≡ self.old) }
     {
         let before = values_at(alloc, self.values.as_slice(), act.parts().as_slice())?;
-        let PerformedValues { values, answer } = perform(alloc, before.as_slice(), act)?;
+        let PerformedValues { values, answer } = perform_on_values(alloc, before.as_slice(), act)?;
         put_values(self.values.as_mut_slice(), act.parts().as_slice(), values);
         Ok(answer)
     }

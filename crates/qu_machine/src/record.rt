@@ -5,7 +5,6 @@ use qu_objects::{Op, Outcome};
 use std::alloc::Global;
 
 /// An operation of a client, as a run shows it.
-#[derive(Debug)]
 pub struct OpRecord {
     pub client: ClientId,
     /// Its number among the operations of its client, from 1 on.
@@ -50,7 +49,7 @@ impl OpRecord {
 }
 
 /// The point at which an operation took effect.
-#[derive(Debug, Drop)]
+#[derive(Drop)]
 pub struct Point {
     pub event: u64,
     pub client: ClientId,

@@ -13,7 +13,6 @@ use std::alloc::Global;
 use std::marker::Model;
 
 /// The candidates that replicas accepted, with the events after which they were decided.
-#[derive(Debug)]
 pub struct Tracker {
     tracked: Vec<Tracked>,
 }

@@ -6,7 +6,6 @@ use qu_stamp::Candidate;
 use std::alloc::Global;
 
 /// A candidate that a replica accepts on an object.
-#[derive(Debug)]
 pub struct Accepted {
     pub object: ObjectId,
     pub candidate: Candidate,

@@ -16,7 +16,7 @@ use qu_stamp::{Candidate, Group};
 use std::alloc::Global;
 
 /// What mends an object, and the objects that are mended with it.
-#[derive(Debug, Drop)]
+#[derive(Drop)]
 pub struct Course {
     pub remedy: Remedy,
     /// These objects, each with the time of what is shown or copied there; none where the object is mended alone.

@@ -21,7 +21,6 @@ use qu_stamp::{Candidate, Group, LAST_TIME, Stamp};
 use std::alloc::Global;
 
 /// A request to mend an object, with what its culled sets say of it.
-#[derive(Debug)]
 pub struct Mend {
     pub target: ObjectId,
     /// Who asks for it.

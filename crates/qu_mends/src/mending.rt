@@ -4,7 +4,7 @@ use qu_frames::Refusal;
 use qu_stamp::Stamp;
 
 /// What a replica makes of a request to mend an object.
-#[derive(Debug, Drop)]
+#[derive(Drop)]
 pub enum Mending {
     /// It accepts these candidates, and tells the stamp of that of the target. A copy has a version; a barrier has
     /// none, and that of a candidate that was shown is stored already.

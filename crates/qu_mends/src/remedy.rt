@@ -5,7 +5,7 @@ use qu_base::ObjectId;
 use qu_stamp::{Candidate, Stamp};
 
 /// What is added to the history of an object to mend it.
-#[derive(Clone, Copy, Debug, PartialEq, Eq)]
+#[derive(Clone, Copy, PartialEq, Eq)]
 pub enum Remedy {
     /// Nothing: the object is sound.
     Nothing,

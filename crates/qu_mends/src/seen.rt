@@ -8,7 +8,7 @@ use qu_history::Sets;
 use qu_stamp::{Candidate, Stamp};
 
 /// An object as the sets of a request show it. They are read once for it, and all rows look at what was read.
-#[derive(Clone, Copy, Debug, PartialEq, Eq)]
+#[derive(Clone, Copy, PartialEq, Eq)]
 pub struct Seen {
     pub object: ObjectId,
     /// The latest stamp, the opening one where the sets show none.

@@ -1,6 +1,7 @@
 use qu_adversary::{fetched_of, reply_of, request_of, sealed_for};
 use qu_base::{Bounds, ClientId, List, ObjectId, Party, ReplicaId};
-use qu_frames::{Body, Frame, Refusal, Verdict, receive};
+use qu_decoding::receive;
+use qu_frames::{Body, Frame, Refusal, Verdict};
 use qu_history::{History, Sealed, SetOf, Sets};
 use qu_objects::{Act, Method};
 use qu_seal::KeyRing;

@@ -1,7 +1,8 @@
 //! The row of a full history, which no run of a script reaches, by the acts that fill it.
 
 use qu_base::{Bounds, ClientId, List, ObjectId, Party, ReplicaId};
-use qu_frames::{Body, Frame, Refusal, Verdict, blank_mac, decode};
+use qu_decoding::decode;
+use qu_frames::{Body, Frame, Refusal, Verdict, blank_mac};
 use qu_history::{History, Sealed, SetOf, Sets};
 use qu_objects::{Act, KindName, Method};
 use qu_replica::Replica;

@@ -14,7 +14,7 @@ use std::test::Fail;
 const OBJECT: ObjectId = ObjectId(5);
 
 /// What was decided, with the number that the version holds that is stored.
-#[derive(Clone, Copy, Debug, PartialEq, Eq)]
+#[derive(Clone, Copy, PartialEq, Eq)]
 enum Seen {
     Adds(Candidate, Option<u64>),
     Holds(Stamp),

@@ -7,7 +7,7 @@ use std::alloc::Global;
 use std::marker::Model;
 
 /// An update of one object.
-#[derive(Clone, Debug, PartialEq, Eq)]
+#[derive(Clone, PartialEq, Eq)]
 pub enum Method {
     /// Adds to a counter.
     Add(u64),
@@ -57,7 +57,6 @@ impl Method {
 pub struct BadParts;
 
 /// An update of objects: for each of them, in rising order, what is done to it.
-#[derive(Debug)]
 pub struct Act {
     parts: List<(ObjectId, Method)>,
 }

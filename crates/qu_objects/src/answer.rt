@@ -4,7 +4,7 @@ use qu_base::{Item, List, NoMemory};
 use std::alloc::Global;
 
 /// What an operation answers: the items of its parts in their order, or the first refused part.
-#[derive(Debug, PartialEq, Eq)]
+#[derive(PartialEq, Eq)]
 pub enum Answer {
     Ok(List<Item>),
     /// The position of the part, from 0, and the number of the refusal: 3 (`OVER`) to 9 (`FULL`), or 12

@@ -11,7 +11,7 @@ use qu_base::{Applied, Kind, List, NoMemory, Told};
 use std::alloc::Global;
 
 /// The kind of an object.
-#[derive(Clone, Copy, Debug, PartialEq, Eq)]
+#[derive(Clone, Copy, PartialEq, Eq)]
 pub enum KindName {
     Counter,
     Blob,
@@ -19,7 +19,6 @@ pub enum KindName {
 }
 
 /// The value of an object, which contracts see as a number, a list of bytes, or a list of entries.
-#[derive(Debug)]
 pub enum Value {
     Counter(Counter),
     Blob(Blob),

@@ -9,7 +9,6 @@ mod kind;
 mod limits;
 mod op;
 mod parts;
-mod performing;
 mod query;
 mod reading;
 mod reading_answer;
@@ -32,7 +31,6 @@ pub use limits::{
     limits_are_these,
 };
 pub use op::{Op, Outcome};
-pub use performing::{PerformedValues, perform, tell_all};
 pub use qu_base::{Applied, Item, Kind, Told};
 pub use query::{Ask, Query};
 pub use reading_answer::read_answer;

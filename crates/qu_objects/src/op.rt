@@ -5,7 +5,6 @@ use qu_base::NoMemory;
 use std::alloc::Global;
 
 /// An operation of a client.
-#[derive(Debug)]
 pub enum Op {
     Act(Act),
     Query(Query),
@@ -33,7 +32,6 @@ impl Op {
 }
 
 /// How an operation ends.
-#[derive(Debug)]
 pub enum Outcome {
     Done(Answer),
     /// All its rounds are spent.

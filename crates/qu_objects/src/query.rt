@@ -8,7 +8,7 @@ use std::alloc::Global;
 use std::marker::Model;
 
 /// What a query asks of one object.
-#[derive(Clone, Debug, PartialEq, Eq)]
+#[derive(Clone, PartialEq, Eq)]
 pub enum Ask {
     /// A counter's value.
     Read,
@@ -42,7 +42,6 @@ impl Ask {
 }
 
 /// A query of objects: for each of them, in rising order, what is asked of it.
-#[derive(Debug)]
 pub struct Query {
     parts: List<(ObjectId, Ask)>,
 }

@@ -7,7 +7,6 @@ use std::alloc::Global;
 
 /// What a version keeps of a client: its last update, by its number and the digest of its act, and what
 /// that answered.
-#[derive(Debug)]
 pub struct KeptRow {
     pub client: ClientId,
     pub number: u64,
@@ -54,7 +53,7 @@ impl KeptRow {
 
 /// The last version that was made together with one of another object: that object, and this object's
 /// stamp then.
-#[derive(Clone, Copy, Debug, PartialEq, Eq)]
+#[derive(Clone, Copy, PartialEq, Eq)]
 pub struct Link {
     pub object: ObjectId,
     pub stamp: Stamp,
@@ -62,7 +61,6 @@ pub struct Link {
 
 /// An object as it is under one stamp: its value, what is kept of clients, by rising client, and its links,
 /// by rising object.
-#[derive(Debug)]
 pub struct ObjState {
     pub value: Value,
     pub kept: List<KeptRow>,

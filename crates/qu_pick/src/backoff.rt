@@ -6,7 +6,6 @@ use qu_base::ClientId;
 use rand_core::utils::NextWord;
 use rand_pcg::Lcg64Xsh32;
 use std::alloc::AllocError;
-use std::fmt;
 use std::marker::Model;
 
 /// The waits of a client between rounds that found it behind. Clients draw different waits, so that they do not
@@ -54,13 +53,6 @@ impl Clone for Backoff {
     fn clone(&self) -> Result<Backoff, AllocError> {
         let words = self.words.clone()?;
         Ok(Backoff { words })
-    }
-}
-
-/// Shows neither the seed nor the words.
-impl fmt::Debug for Backoff {
-    fn fmt<W: fmt::Write>(&self, f: &mut fmt::Formatter<W>) -> fmt::Result {
-        f.debug_struct("Backoff").finish_non_exhaustive()
     }
 }
 

@@ -7,7 +7,7 @@ use qu_objects::Link;
 use qu_stamp::Stamp;
 
 /// What the version of an object under one stamp tells of other objects.
-#[derive(Debug, Drop)]
+#[derive(Drop)]
 pub struct Fact {
     pub object: ObjectId,
     pub stamp: Stamp,

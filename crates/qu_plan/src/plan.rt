@@ -17,7 +17,7 @@ use qu_stamp::{Candidate, Stamp};
 use std::alloc::Global;
 
 /// What a copy copies.
-#[derive(Debug, Drop)]
+#[derive(Drop)]
 pub struct CopyPlan {
     /// The objects that are copied together, in rising order, each with the candidate upon whose stamp its copy rests.
     pub joint: List<(ObjectId, Candidate)>,

@@ -1,4 +1,3 @@
 -- Where updates and queries took effect.
 pub mod Taking
-pub mod Firsts
 pub mod AnsweredRounds

@@ -1,12 +1,9 @@
 -- The points of some operations of a trace, in their order.
 use Rattle.std.specs.Prelude.{◌<◌, ◌^◌, ◌≡◌, ℕ, Bool, true, false, ◌==◌, ◌&&◌, ◌+◌, if◌then◌else◌, List, [], ◌∷◌, position, Option, None, Some, option_map, Ok, IsTrue, Contains, ◌⊎◌}
 use Rattle.std.specs.List.{AllPairs, list_any, filter_map}
-use Rattle.std.specs.Option.{option_eq}
 use Rattle.qu_base.specs.declared.party.ClientId.{ClientId}
-use Rattle.qu_base.specs.declared.party.Digest.{Digest}
 use Rattle.qu_base.specs.declared.party.ObjectId.{ObjectId}
 use Rattle.qu_base.specs.declared.party.Party.TheVariants as party
-use Rattle.qu_stamp.specs.Stamp.{same_digest}
 use Rattle.qu_objects.specs.declared.act.Method.{Method}
 use Rattle.qu_objects.specs.declared.act.Method.TheVariants.{Add, Take, Link}
 use Rattle.qu_objects.specs.declared.op.Op.{Op}
@@ -23,12 +20,11 @@ use Rattle.qu_trace.specs.declared.trace.Entry.{Entry}
 use Rattle.qu_trace.specs.declared.trace.Setup.{Setup}
 use Rattle.qu_trace.specs.declared.trace.Trace.{Trace}
 use Rattle.qu_trace.specs.Faulty.{is_faulty}
-use Rattle.qu_trace.specs.Earliest.{earlier_of}
 use Rattle.qu_claims.specs.Handled.{Request, handled_by}
 use Rattle.qu_claims.specs.Answers.{answers, round_in}
-use Rattle.qu_claims.specs.Effects.{is_on}
 use Rattle.qu_known.specs.declared.answers.Answered.{Answered}
 use Rattle.qu_known.specs.declared.tracked.Tracked.{Tracked}
+use Rattle.qu_first_marks.specs.FirstMark.{first_mark}
 use Rattle.qu_claims.specs.Order.{DecidesAt, query_effect, op_bytes, is_earlier, are_in_order}
 
 -- the round of the answer that a frame is
@@ -66,23 +62,7 @@ abbrev pub is_named_act : ClientId → ℕ → List (ObjectId × Method) → Nam
 is_named_act client number parts act = (act.0).0 == client.0 && (act.1 == number
     && same_op (op.Act act.2) (op.Act parts))
 
--- the candidate is one of the update of this client and these parts whose digest is `act`, on one of its objects
-abbrev pub is_of_update : ClientId → List (ObjectId × Method) → Digest → Tracked → Bool
-is_of_update client parts act tracked =
-    is_on tracked.object parts
-    && ((tracked.candidate.stamp.client).0 == client.0 && option_eq same_digest tracked.candidate.stamp.act (Some act))
-
--- the mark of the candidate, where it is one of this update
-abbrev pub mark_of : ClientId → List (ObjectId × Method) → Digest → Tracked → Option ℕ
-mark_of client parts act tracked = if is_of_update client parts act tracked then tracked.decided else None
-
--- the first event after which a candidate of this update was decided
-unfoldable pub first_mark : ClientId → List (ObjectId × Method) → Digest → List Tracked → Option ℕ
-first_mark client parts act [] = None
-first_mark client parts act (tracked ∷ later) =
-    earlier_of (mark_of client parts act tracked) (first_mark client parts act later)
-
--- the same of the update that this client asks for under this number, where it is among the handled acts
+-- the first mark of the update that this client asks for under this number, where it is among the handled acts
 abbrev pub act_mark : ClientId → ℕ → List (ObjectId × Method) → List NamedAct → List Tracked → Option ℕ
 act_mark client number parts acts tracked =
     if list_any (is_named_act client number parts) acts

@@ -2,53 +2,22 @@ ghost use Rattle.std.specs.Prelude.{◌≡◌, ℕ, map, Some, IfOk, MatchOption
 ghost use Rattle.std.specs.Option.{option_copied};
 ghost use Rattle.qu_trace.specs.Letters.{numbered};
 ghost use Rattle.qu_claims.specs.Answers.{delivered_round};
-ghost use Rattle.qu_claims.specs.Effects.{is_on};
 ghost use Rattle.qu_known.specs.Answers.{rounds_answered};
 ghost use Rattle.qu_claims.specs.Order.{query_effect, AnswersFirst};
 ghost use Rattle.qu_points.specs.Facts.{AreFacts};
-ghost use Rattle.qu_points.specs.Points.{effect_of, mark_of, first_mark, act_mark, round_by};
+ghost use Rattle.qu_points.specs.Points.{effect_of, act_mark, round_by};
 
 use super::acts::is_handled;
 use super::answers::first_answer;
 use super::facts::Facts;
-use qu_base::{ClientId, Digest, List, NoMemory, ObjectId};
+use qu_base::{ClientId, List, NoMemory};
+use qu_first_marks::first_mark;
 use qu_frames::Frame;
 use qu_known::{Answered, Tracked, answered_by};
 use qu_machine::OpRecord;
 use qu_objects::{Act, Op, Outcome, act_digest};
-use qu_trace::{DecodedTrace, earlier};
+use qu_trace::DecodedTrace;
 use std::alloc::Global;
-
-/// The first event after which a candidate of the update with this digest was decided.
-#[tactic(auto, using(crate::proofs::Taken::Firsts::first_mark_more, crate::proofs::Taken::Firsts::first_mark_end))]
-fn first_mark(tracked: &[Tracked], client: ClientId, act: &Act, digest: Digest) -> Option<u64>
-    ensures { result ≡ first_mark client act.now digest tracked.now }
-{
-    let mut first = None;
-    for candidate in tracked {
-        first = earlier(first, mark_of(candidate, client, act, digest));
-    }
-    first
-}
-
-/// The mark of the candidate, where it is one of this update.
-fn mark_of(tracked: &Tracked, client: ClientId, act: &Act, digest: Digest) -> Option<u64>
-    ensures { result ≡ mark_of client act.now digest tracked.now }
-{
-    let stamp = &tracked.candidate.stamp;
-    if is_on(tracked.object, act) && stamp.client == client && stamp.act == Some(digest) {
-        tracked.decided
-    } else {
-        None
-    }
-}
-
-/// Whether the object is one of those that the act names.
-fn is_on(object: ObjectId, act: &Act) -> bool
-    ensures { result ≡ is_on object act.now }
-{
-    act.parts().iter().any(|part| part.0 == object)
-}
 
 /// The event at which an operation of a run took effect, None where it took none.
 pub fn effect(

@@ -11,7 +11,7 @@ use qu_trace::DecodedTrace;
 use std::alloc::Global;
 
 /// What has to be known of a run to find the points of its operations.
-#[derive(Debug, Drop)]
+#[derive(Drop)]
 pub struct Facts {
     /// The candidates that replicas accepted, with the events after which they were decided.
     pub tracker: Tracker,

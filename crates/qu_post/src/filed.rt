@@ -3,7 +3,7 @@ use qu_frames::{Input, Letter};
 use qu_objects::Outcome;
 
 /// A step that an actor made, as it is filed.
-#[derive(Debug, Drop)]
+#[derive(Drop)]
 pub struct Filed {
     pub ticket: u64,
     pub actor: Party,

@@ -1,9 +1,7 @@
-mod Lists
-mod Equalities
+pub mod Lists
+pub mod Equalities
 mod TextLaws
-mod Frames
-mod Forgeries
-mod Collisions
-mod Steps
+pub mod Frames
+pub mod Forgeries
+pub mod Clashes
 mod Noting
-mod Unique

@@ -3,4 +3,3 @@ pub mod Forging
 pub mod Texts
 pub mod Digesting
 pub mod Digests
-pub mod Past

@@ -13,7 +13,6 @@ use std::alloc::Global;
 use std::collections::HashMap;
 
 /// A text that was digested, and the event that digested it first.
-#[derive(Debug)]
 pub struct Seen {
     pub event: u64,
     pub text: Text,
@@ -47,6 +46,7 @@ impl Drop for Digests {
 }
 
 impl Digests {
+    /// No text was digested yet.
     pub fn new(alloc: Global) -> Digests
         ensures { (digest : Key) → look result digest ≡ None }
     {
@@ -127,7 +127,7 @@ impl Digests {
     }
 
     /// The earliest event that digested another text with the digest of one of these, all of which were noted.
-    #[tactic(auto, using(crate::proofs::Collisions::first_clash_more, crate::proofs::Collisions::first_clash_end))]
+    #[tactic(auto, using(crate::proofs::Clashes::first_clash_more, crate::proofs::Clashes::first_clash_end))]
     pub fn first_clash(&self, texts: &[Text]) -> Option<u64>
         ensures { result ≡ first_clash (look self.now) texts.now }
     {

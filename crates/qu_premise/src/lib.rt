@@ -1,8 +1,7 @@
-//! The premises of a run, tested on the run itself: that no HMAC of a correct party is forged, and that no two
-//! texts that are digested have one digest.
+//! What the premises of a run are tested by: what is forged at an event, what letters showed before it, and which texts
+//! are digested at it, of which no two may have one digest.
 #![tactic(auto)]
 
-mod auditing;
 mod digests;
 mod forging;
 mod reading;
@@ -10,5 +9,8 @@ mod shown;
 mod text;
 mod texts;
 
-pub use auditing::audit;
-pub use qu_trace::Premises;
+pub use digests::{Digests, Seen};
+pub use forging::{is_forged, ring_of};
+pub use shown::{Shown, ShownSoFar};
+pub use text::Text;
+pub use texts::texts_at;

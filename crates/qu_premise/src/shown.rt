@@ -63,6 +63,7 @@ impl<'a> Model for ShownSoFar<'a> {
 }
 
 impl<'a> ShownSoFar<'a> {
+    /// No letter was sent yet.
     pub fn new(alloc: Global) -> ShownSoFar<'a>
         ensures { result ≡ [] }
     {

@@ -7,7 +7,6 @@ use std::alloc::Global;
 use std::marker::Model;
 
 /// A text under the tag of its kind, and its digest. The bytes can be held several times.
-#[derive(Debug)]
 pub struct Text {
     tag: u8,
     bytes: Shared<List<u8>>,
@@ -38,6 +37,7 @@ impl Model for Text {
 }
 
 impl Text {
+    /// The text of these bytes under this tag, with its digest.
     pub fn new(alloc: Global, tag: u8, bytes: List<u8>) -> Result<Text, NoMemory>
         ensures { IfOk result (λ text. text ≡ record { tag = tag; bytes = bytes }) }
     {
@@ -46,18 +46,21 @@ impl Text {
         Ok(Text { tag, bytes, digest })
     }
 
+    /// The tag of its kind.
     pub fn tag(&self) -> u8
         ensures { result ≡ self.now.tag }
     {
         self.tag
     }
 
+    /// Its bytes, without the tag.
     pub fn bytes(&self) -> &[u8]
         ensures { result.now ≡ self.now.bytes }
     {
         self.bytes.get().as_slice()
     }
 
+    /// The digest of the bytes under the tag.
     pub fn digest(&self) -> Digest
         ensures { result ≡ digest_of_text self.now }
     {

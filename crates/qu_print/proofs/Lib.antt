@@ -1,4 +1,2 @@
 pub mod LineFacts
-pub mod RangeFacts
-pub mod ReportFacts
 pub mod SumFacts

@@ -1,35 +1,16 @@
 ghost use Rattle.std.specs.Prelude.{◌≡◌, ◌∷◌, [], ◌++◌, OnOk, count_by, string_bytes};
 ghost use Rattle.qu_trace.specs.declared.premises.Premises.TheVariants.{Collide};
 ghost use Rattle.qu_print.specs.Lines.{lines_text};
-ghost use Rattle.qu_print.specs.Ends.{open_lines, open_lines_of, premises_line, end_line, counts_text, ended_done, ended_given_up, never_ended};
+ghost use Rattle.qu_print.specs.Ends.{premises_line, end_line, counts_text, ended_done, ended_given_up, never_ended};
 
 use qu_base::NoMemory;
 use qu_machine::OpRecord;
 use qu_objects::Outcome;
 use qu_trace::Premises;
 
-/// Writes which operations of clients 1, 2, .. up to this one have no end, whether the premises hold, and how many
-/// operations ended.
-pub fn put_ends(
-    text: &mut String,
-    clients: u16,
-    operations: &[OpRecord],
-    premises: &Premises,
-) -> Result<(), NoMemory>
-    ensures { OnOk result (string_bytes text.new
-        ≡ string_bytes text.old
-        ++ lines_text (open_lines clients operations.now
-        ++ premises_line premises.now ∷ end_line operations.now ∷ [])) }
-{
-    put_open(text, clients, operations)?;
-    put_premises(text, premises)?;
-    put_end_line(text, operations)?;
-    Ok(())
-}
-
 /// Writes whether the premises hold, and else the events of the first break.
 #[tactic(auto, unfolding(crate::specs::Lines::lines_text, crate::specs::Ends::premises_line))]
-fn put_premises(text: &mut String, premises: &Premises) -> Result<(), NoMemory>
+pub fn put_premises(text: &mut String, premises: &Premises) -> Result<(), NoMemory>
     ensures { OnOk result (string_bytes text.new
         ≡ string_bytes text.old ++ lines_text (premises_line premises.now ∷ [])) }
 {
@@ -52,35 +33,9 @@ fn put_collision(text: &mut String, first: u64, second: u64) -> Result<(), NoMem
     Ok(())
 }
 
-/// Writes a line for each operation of clients 1, 2, .. up to this one that has no end.
-#[tactic(auto, unfolding(crate::specs::Lines::lines_text, crate::specs::Ends::open_lines))]
-fn put_open(text: &mut String, clients: u16, operations: &[OpRecord]) -> Result<(), NoMemory>
-    ensures { OnOk result (string_bytes text.new
-        ≡ string_bytes text.old ++ lines_text (open_lines clients operations.now)) }
-{
-    for earlier in 0..clients {
-        put_open_of(text, earlier + 1, operations)?;
-    }
-    Ok(())
-}
-
-#[tactic(auto, unfolding(crate::specs::Lines::lines_text, crate::specs::Ends::open_lines_of))]
-fn put_open_of(text: &mut String, client: u16, operations: &[OpRecord]) -> Result<(), NoMemory>
-    ensures { OnOk result (string_bytes text.new
-        ≡ string_bytes text.old ++ lines_text (open_lines_of operations.now client)) }
-{
-    for operation in operations {
-        if operation.client.0 == client && is_open(operation) {
-            let number = operation.number;
-            writeln!(text, "open {client}.{number}")?;
-        }
-    }
-    Ok(())
-}
-
 /// Writes the line that counts how operations ended.
 #[tactic(auto, unfolding(crate::specs::Lines::lines_text, crate::specs::Ends::end_line))]
-fn put_end_line(text: &mut String, operations: &[OpRecord]) -> Result<(), NoMemory>
+pub fn put_end_line(text: &mut String, operations: &[OpRecord]) -> Result<(), NoMemory>
     ensures { OnOk result (string_bytes text.new
         ≡ string_bytes text.old ++ lines_text (end_line operations.now ∷ [])) }
 {
@@ -92,7 +47,7 @@ fn put_end_line(text: &mut String, operations: &[OpRecord]) -> Result<(), NoMemo
 
 /// Writes how many operations there are, and how they ended.
 #[tactic(auto, unfolding(crate::specs::Ends::counts_text))]
-pub(crate) fn put_counts(text: &mut String, operations: &[OpRecord]) -> Result<(), NoMemory>
+pub fn put_counts(text: &mut String, operations: &[OpRecord]) -> Result<(), NoMemory>
     ensures { OnOk result (string_bytes text.new ≡ string_bytes text.old ++ counts_text operations.now) }
 {
     let calls = operations.len();
@@ -132,10 +87,4 @@ fn ends_of(operations: &[OpRecord]) -> Ends
         }
     }
     ends
-}
-
-fn is_open(operation: &OpRecord) -> bool
-    ensures { result ≡ never_ended operation.now }
-{
-    operation.reply.is_none()
 }

@@ -10,11 +10,7 @@ use std::alloc::Global;
 
 /// The sum of all counters behind the points.
 #[tactic(auto, unfolding(crate::specs::Summary::counters_sum))]
-pub(crate) fn counters_sum(
-    alloc: Global,
-    kinds: &[KindName],
-    order: &[Point],
-) -> Result<u128, NoMemory>
+pub fn counters_sum(alloc: Global, kinds: &[KindName], order: &[Point]) -> Result<u128, NoMemory>
     requires { length kinds.now ≤ OBJECT_IDS }
     ensures { IfOk result (λ sum. sum ≡ counters_sum kinds.now order.now) }
 {

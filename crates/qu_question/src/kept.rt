@@ -4,7 +4,7 @@ use qu_base::{NoMemory, Shared};
 use qu_history::Sealed;
 
 /// What a kept history is to the operation under way.
-#[derive(Clone, Copy, Debug, PartialEq, Eq)]
+#[derive(Clone, Copy, PartialEq, Eq)]
 pub enum Mark {
     /// The round's sets do not hold it: it is of another object, or was trimmed away, or came since the round began.
     Unshown,
@@ -15,7 +15,6 @@ pub enum Mark {
 }
 
 /// The newest sealed history of an object that a replica sent, and which request it answered.
-#[derive(Debug)]
 pub struct Kept {
     pub sealed: Shared<Sealed>,
     pub number: u64,

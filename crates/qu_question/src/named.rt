@@ -8,7 +8,6 @@ use std::alloc::Global;
 use std::marker::Model;
 
 /// One to eight objects in rising order: those that are named in an operation.
-#[derive(Debug)]
 pub struct Named {
     objects: List<ObjectId>,
 }

@@ -14,7 +14,7 @@ use qu_objects::Op;
 use std::alloc::Global;
 
 /// What is asked in a round.
-#[derive(Debug, Drop)]
+#[derive(Drop)]
 pub struct Question {
     /// The objects that are named, of which the sets are.
     pub named: Named,

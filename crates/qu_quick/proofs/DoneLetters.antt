@@ -30,9 +30,10 @@ use Rattle.qu_rows.specs.State.{ReplicaState}
 use Rattle.qu_fitting.specs.Holding.{accept_all}
 use Rattle.qu_rows.specs.Rows.{unknown_in}
 use Rattle.qu_rows.specs.Waiting.{TakenRequest}
-use Rattle.qu_replica.specs.Step.{shown, named, answer_frame, reply, carried_out, replica_on_received, replica_step}
+use Rattle.qu_handling.specs.Named.{named}
+use Rattle.qu_replica.specs.Step.{shown, answer_frame, reply, carried_out, replica_on_received, replica_step}
 use Rattle.qu_replica.specs.Growth.{Grows}
-use Rattle.qu_replica.proofs.Requests.NamedEntries.{accept_all-named}
+use Rattle.qu_replica.proofs.States.Accepting.{accept_all-named}
 use Rattle.qu_replica.proofs.States.Growth.{accept_all-grows}
 use Rattle.qu_client.specs.declared.state.ClientState.{ClientState}
 use Rattle.qu_client.specs.State.{Stepped}

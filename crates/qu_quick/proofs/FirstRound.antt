@@ -31,15 +31,17 @@ use Rattle.qu_frames.specs.Body.{body_of}
 use Rattle.qu_frames.specs.declared.frame.Body.TheVariants as body
 use Rattle.qu_frames.specs.declared.frame.Letter.{Letter}
 use Rattle.qu_grounds.proofs.Grounds.{IsBase, is_base}
-use Rattle.qu_client.specs.declared.whom.Whom.{Whom}
-use Rattle.qu_client.specs.declared.whom.Whom.TheVariants.{Preferred}
-use Rattle.qu_client.specs.declared.work.Work.{Work}
+use Rattle.qu_counting.specs.declared.whom.Whom.{Whom}
+use Rattle.qu_counting.specs.declared.whom.Whom.TheVariants.{Preferred}
+use Rattle.qu_counting.specs.declared.work.Work.{Work}
 use Rattle.qu_question.specs.declared.question.Question.{Question}
 use Rattle.qu_client.specs.declared.state.ClientState.{ClientState}
 use Rattle.qu_question.specs.Named.{operation_objects}
 use Rattle.qu_question.specs.Question.{set_of, sets_of, are_full, are_current, need_of, lower_of, lowest_needed, named_for, asked_upon}
 use Rattle.qu_question.proofs.Building.{named_for-none, class_at_method}
-use Rattle.qu_client.specs.Rounds.{is_asked, requests_from, work_asking, begins}
+use Rattle.qu_counting.specs.Whom.{is_asked}
+use Rattle.qu_counting.specs.Work.{work_asking}
+use Rattle.qu_client.specs.Rounds.{requests_from, begins}
 use Rattle.qu_client.specs.State.{Stepped}
 use Rattle.qu_question.specs.Kept.{unmarked}
 use Rattle.qu_client.specs.Steps.{client_invoke, next_number}

@@ -6,7 +6,7 @@ use qu_objects::Outcome;
 use std::alloc::Global;
 
 /// What an actor took in a step, and what it made of it.
-#[derive(Debug, Drop)]
+#[derive(Drop)]
 pub struct KeptStep {
     /// Of steps with different tickets, the one with the smaller ticket comes first.
     pub ticket: u64,

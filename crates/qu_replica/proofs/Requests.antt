@@ -1,4 +1,3 @@
--- What a replica culls of a request, and what it shows.
-pub mod NamedEntries
+-- What a replica asks for, and what it shows.
 pub mod Fetches
 pub mod Showing

@@ -1,5 +1,5 @@
 -- The replica's step: a function from its state and a text to a state and letters.
-use Rattle.std.specs.Prelude.{ℕ, zero, suc, ◌+◌, ◌==◌, Bool, true, false, ◌&&◌, if◌then◌else◌, List, [], ◌∷◌, map, slice_get, Option, None, Some, is_none, option_map}
+use Rattle.std.specs.Prelude.{ℕ, zero, suc, ◌+◌, ◌==◌, Bool, true, false, ◌&&◌, if◌then◌else◌, List, [], ◌∷◌, map, slice_get, Option, None, Some, option_map}
 use Rattle.std.specs.List.{filter_map, flat_map}
 use Rattle.qu_base.specs.Bounds.{replicas}
 use Rattle.qu_base.specs.declared.party.Party.TheVariants as party
@@ -10,7 +10,6 @@ use Rattle.qu_seal.specs.Keys.{Ring}
 use Rattle.qu_stamp.specs.declared.stamp.Stamp.{Stamp}
 use Rattle.qu_history.specs.declared.sets.SetOf.{SetOf}
 use Rattle.qu_history.specs.History.{ObjectHistory}
-use Rattle.qu_history.specs.Culling.{left_out}
 use Rattle.qu_history.specs.Sealing.{sealed_by}
 use Rattle.qu_objects.specs.declared.state.ObjState.{ObjState}
 use Rattle.qu_objects.specs.declared.kind.KindName.{KindName}
@@ -33,15 +32,12 @@ use Rattle.qu_rows.specs.State.{ReplicaState}
 use Rattle.qu_fitting.specs.Holding.{accept_all}
 use Rattle.qu_waiting.specs.declared.counting.Counting.{Counting}
 use Rattle.qu_waiting.specs.Slots.{with_slot, with_fetches, with_votes, without_fetch, counting_of, fetch_under, first_waiting, without_request}
-use Rattle.qu_rows.specs.Rows.{asked_at, unknown_in, decision_on}
+use Rattle.qu_rows.specs.Rows.{asked_at, decision_on}
+use Rattle.qu_handling.specs.Named.{named}
 
 -- the histories of those objects of the sets that the replica has, as they stand
 unfoldable pub shown : ReplicaState → List SetOf → List ObjectHistory
 shown state sets = filter_map (λ set. slice_get state.histories (set.object).0) sets
-
--- the entries that a reply names: those that are culled, none where the replica does not have an object of the sets
-unfoldable pub named : ReplicaState → List SetOf → List (ObjectId × ReplicaId)
-named state sets = if is_none (unknown_in state sets) then left_out state.keys state.me sets else []
 
 -- the frame that answers a request with these sets, before its HMAC is made
 abbrev pub answer_frame : ReplicaState → ClientId → ℕ → ℕ → List SetOf → Verdict → Frame

@@ -18,7 +18,6 @@ type GainParts = (
 );
 
 /// What a replica's state gains by a step, as whole parts that are only moved in.
-#[derive(Debug)]
 pub struct Gain {
     /// The histories of the objects of which candidates are accepted, with these candidates.
     pub histories: List<History>,
@@ -139,7 +138,7 @@ impl Gain {
 }
 
 /// What a step of a replica will make. To carry it out takes no memory.
-#[derive(Debug, Drop)]
+#[derive(Drop)]
 pub struct Planned {
     /// What the replica's state gains.
     pub gain: Gain,

@@ -5,15 +5,11 @@ ghost use Rattle.qu_base.specs.Format.{AreBytes};
 ghost use Rattle.qu_base.specs.declared.limits.TheConstants.{OBJECT_IDS, REPLICA_IDS};
 ghost use Rattle.qu_rows.specs.State.{AreHistories, without_waiting, one_more};
 ghost use Rattle.qu_versions.specs.Versions.{version_at};
-ghost use Rattle.qu_rows.specs.Rows.{asked_at, unknown_in, unknown_refused, decision_on};
-ghost use Rattle.qu_rows.specs.Allowed.{MayDecide};
 ghost use Rattle.qu_fitting.specs.Holding.{replica_at_start};
 ghost use Rattle.qu_fitting.specs.Holding.{with_histories};
 ghost use Rattle.qu_replica.specs.State.{with_gain};
-ghost use Rattle.qu_history.specs.Culling.{culled};
-ghost use Rattle.qu_history.specs.Text.{sets_digest};
 ghost use Rattle.qu_frames.specs.Signing.{before_mac};
-ghost use Rattle.qu_replica.specs.Step.{named, replica_step};
+ghost use Rattle.qu_replica.specs.Step.{replica_step};
 ghost use Rattle.qu_replica.specs.Growth.{Grows, MayGain};
 ghost use Rattle.qu_fitting.specs.Fits.{StateFits, LetterFits};
 
@@ -24,11 +20,13 @@ mod reply;
 
 use crate::planned::{Gain, Planned};
 use crate::seals::{Seal, keep_seals, no_seals};
-use qu_base::{Bounds, Digest, List, NoMemory, ObjectId, Party, ReplicaId};
+use qu_base::{Bounds, List, NoMemory, ObjectId, Party, ReplicaId};
+use qu_decoding::read_request;
 use qu_frames::{Letter, Reading};
-use qu_history::{Culled, History, Sets};
+use qu_handling::{Handled, handle};
+use qu_history::History;
 use qu_objects::{KindName, ObjState};
-use qu_rows::{Asked, Decision, Rows};
+use qu_rows::{Decision, Rows};
 use qu_seal::KeyRing;
 use qu_stamp::Stamp;
 use qu_versions::{Stored, VersionStore};
@@ -38,7 +36,6 @@ use std::marker::Model;
 
 /// One replica. It keeps a history of each object, the versions that it accepted or fetched, and the requests that wait
 /// for those that it fetches.
-#[derive(Debug)]
 pub struct Replica {
     alloc: Global,
     me: ReplicaId,
@@ -89,13 +86,6 @@ impl Model for Replica {
 
     ghost invariant = { λ replica. IsTrue (are_own replica.me 0 replica.histories.items)
         × IsTrue (are_slots 0 replica.waiting.items) };
-}
-
-/// What a replica makes of a request: the entries that its reply names, and its decision.
-#[derive(Drop)]
-struct Handled {
-    named: List<(ObjectId, ReplicaId)>,
-    decision: Decision,
 }
 
 impl Replica {
@@ -193,7 +183,7 @@ impl Replica {
         ensures may { IfOk result (λ planned. MayGain self.now planned.gain) }
         ensures histories { AreHistories self.now }
     {
-        match Reading::of(self.alloc, text)? {
+        match read_request(self.alloc, text)? {
             Some(reading) => self.plan_read(text, &reading),
             None => self.plan_other(text),
         }
@@ -211,7 +201,13 @@ impl Replica {
         if !reading.is_brought(&self.keys, Party::Replica(self.me), text) {
             return self.plan_letters(List::new(self.alloc));
         }
-        let Handled { named, decision } = self.handle(&self.rows(None), reading)?;
+        let Handled { named, decision } = handle(
+            self.alloc,
+            self.me,
+            &self.keys,
+            &self.rows(None),
+            reading,
+        )?;
         match decision {
             Decision::Answers { verdict, accepted } => {
                 let gain = Gain::nothing(self.alloc);
@@ -270,61 +266,6 @@ impl Replica {
             &self.versions,
             more,
         )
-    }
-
-    /// What the replica makes of a request upon what its rows look at. Objects that it does not have are asked for
-    /// before the sets are culled, and sets whose entries are all right are decided upon as they came.
-    #[tactic(auto, using(crate::proofs::Requests::NamedEntries::handling))]
-    fn handle(&self, rows: &Rows, reading: &Reading) -> Result<Handled, NoMemory>
-        requires me { rows.now.me ≡ self.now.me }
-        requires keys { rows.now.keys ≡ self.now.keys }
-        ensures named { IfOk result (λ handled. handled.named ≡ named rows.now reading.now.sets) }
-        ensures decision { IfOk result (λ handled. handled.decision ≡ decision_on rows.now
-            (asked_at rows.now reading.now.client reading.now.number reading.now.sets reading.now.body)
-            reading.now.body) }
-        ensures may { IfOk result (λ handled. MayDecide rows.now handled.decision) }
-    {
-        let digested = reading.sets();
-        let whole = digested.sets();
-        if let Some(refusal) = rows.row_unknown(whole) {
-            return Ok(Handled {
-                named: List::new(self.alloc),
-                decision: refusal,
-            });
-        }
-        if digested.are_right(self.me, &self.keys) {
-            return Ok(Handled {
-                named: List::new(self.alloc),
-                decision: self.decide_upon(rows, reading, whole, digested.digest_of())?,
-            });
-        }
-        let Culled { sets, left } = digested.cull(self.alloc, self.me, &self.keys)?;
-        let set = sets.digest_of(self.alloc)?;
-        Ok(Handled {
-            named: left,
-            decision: self.decide_upon(rows, reading, &sets, set)?,
-        })
-    }
-
-    /// What it makes of a request of objects that it has upon the culled sets, which have this digest.
-    #[tactic(auto, using(crate::proofs::Requests::NamedEntries::handling))]
-    fn decide_upon(
-        &self,
-        rows: &Rows,
-        reading: &Reading,
-        sets: &Sets,
-        set: Digest,
-    ) -> Result<Decision, NoMemory>
-        requires known { None ≡ unknown_refused (unknown_in rows.now reading.now.sets) }
-        requires culled { sets.now ≡ culled rows.now.keys rows.now.me reading.now.sets }
-        requires digest { set ≡ sets_digest sets.now }
-        ensures value { IfOk result (λ decision. decision ≡ decision_on rows.now
-            (asked_at rows.now reading.now.client reading.now.number reading.now.sets reading.now.body)
-            reading.now.body) }
-        ensures may { IfOk result (λ decision. MayDecide rows.now decision) }
-    {
-        let asked = Asked::new(self.alloc, reading, sets, set)?;
-        rows.decide(&asked, reading.body())
     }
 }
 

@@ -8,7 +8,6 @@ use qu_base::{List, NoMemory};
 use qu_history::{History, Sealed};
 use qu_seal::{KeyRing, RingName};
 use std::alloc::Global;
-use std::fmt;
 use std::marker::Model;
 
 /// A history as its replica sealed it with the keys of a ring. Contracts see nothing of it: it saves work alone.
@@ -60,14 +59,6 @@ impl Seal {
             return Ok(Some(self.sealed.macs.copy(alloc)?));
         }
         Ok(None)
-    }
-}
-
-impl fmt::Debug for Seal {
-    fn fmt<W: fmt::Write>(&self, f: &mut fmt::Formatter<W>) -> fmt::Result {
-        f.debug_struct("Seal")
-            .field("sealed", &self.sealed)
-            .finish_non_exhaustive()
     }
 }
 

@@ -24,12 +24,13 @@ use Rattle.qu_rows.specs.declared.decision.Decision.TheVariants.{Answers}
 use Rattle.qu_rows.specs.State.{ReplicaState}
 use Rattle.qu_fitting.specs.Holding.{accept_all}
 use Rattle.qu_rows.specs.Rows.{asked_at, decision_on}
+use Rattle.qu_handling.specs.Named.{named}
 use Rattle.qu_replica.specs.Step.{answer_frame, reply, replica_on_frame, replica_on_received, replica_step, learned, handled}
 use Rattle.qu_replica.specs.Step as own
 use Rattle.qu_client.specs.declared.state.ClientState.{ClientState}
 use Rattle.qu_client.specs.State.{Stepped}
-use Rattle.qu_client.specs.declared.work.Work.{Work}
-use Rattle.qu_client.specs.declared.whom.Whom.{Whom}
+use Rattle.qu_counting.specs.declared.work.Work.{Work}
+use Rattle.qu_counting.specs.declared.whom.Whom.{Whom}
 use Rattle.qu_client.specs.Rounds.{request_of, requests}
 use Rattle.qu_client.proofs.Sent.{each_letter}
 use Rattle.qu_client.specs.Steps.{client_invoke, client_step, client_tick}
@@ -235,7 +236,7 @@ module _ (replica : ReplicaId) (client : ClientId) (number round : ℕ) (verdict
       let new : ReplicaState = accept_all mid accepted in
       let to : Party = party.Client request.client in
       let made : Frame = answer_frame new request.client request.number request.round request.sets given in
-      let same = same_reply new.me request.client request.number request.round given (own.named new request.sets)
+      let same = same_reply new.me request.client request.number request.round given (named new request.sets)
       (map (sealed_by new.keys) (own.shown new request.sets)) (signature new.keys to made)
       (sym (signed_carries (reply new request.client request.number request.round request.sets given) new.keys to made
       (frame.Reply replica client number round verdict culled shown seal) (fits request handles given accepted is)

@@ -57,6 +57,13 @@ impl<'a> Asked<'a> {
             set,
         })
     }
+
+    /// Its culled sets.
+    pub fn sets(&self) -> &'a Sets
+        ensures { result.now ≡ self.now.sets }
+    {
+        self.sets
+    }
 }
 
 /// The digest of the act that is asked for, none of a query or a repair.

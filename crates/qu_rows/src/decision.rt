@@ -19,7 +19,7 @@ fn copies(alloc: Global, accepted: &[Accepted]) -> Result<List<Accepted>, NoMemo
 }
 
 /// What a replica makes of a request.
-#[derive(Debug, Drop)]
+#[derive(Drop)]
 pub enum Decision {
     /// It accepts these candidates, none of a refusal or a query, and answers.
     Answers {
@@ -50,7 +50,7 @@ impl Decision {
 }
 
 /// The decision to accept nothing.
-pub(crate) fn refuse(alloc: Global, why: Refusal) -> Decision
+pub fn refuse(alloc: Global, why: Refusal) -> Decision
     ensures { result ≡ refuse why }
 {
     Decision::Answers {

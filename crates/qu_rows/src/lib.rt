@@ -1,5 +1,5 @@
-//! What a replica makes of a request, by its two tables: that of an act or a query, and that of a request to mend an
-//! object.
+//! The rows of a replica's tables, each by itself: those of an act and of a query, and those of a request to mend an
+//! object; and what they look at.
 #![tactic(auto)]
 
 mod asked;
@@ -8,5 +8,5 @@ mod rows;
 mod versions;
 
 pub use asked::Asked;
-pub use decision::Decision;
-pub use rows::Rows;
+pub use decision::{Decision, refuse};
+pub use rows::{Rows, row_done, row_kept, row_method, row_time};

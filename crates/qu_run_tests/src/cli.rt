@@ -1,9 +1,10 @@
 //! A source and a sink that see what each call moves.
 
 use qu_base::List;
-use qu_cli::{PIECE, qu_alone};
+use qu_cli::qu_alone;
 use qu_io::{Failed, MemSink, MemSource, Sink, Source};
 use qu_testing::holds;
+use qu_transfer::PIECE;
 use std::alloc::Global;
 use std::test::Fail;
 

@@ -3,10 +3,10 @@ use Rattle.std.proofs.Common.{◌≡◌, ℕ, zero, suc, ◌+◌, ◌<◌, ◌�
 use Rattle.std.proofs.lemmas.List.{at_drop_more, at_drop_all}
 use Rattle.qu_base.specs.declared.party.ClientId.{ClientId}
 use Rattle.qu_trace.specs.declared.event.Event.TheVariants as event
-use Rattle.qu_language.specs.declared.bad.ScriptFail.{ScriptFail}
-use Rattle.qu_language.specs.declared.bad.ScriptFail.TheVariants as fails
+use Rattle.qu_script_words.specs.declared.bad.ScriptFail.{ScriptFail}
+use Rattle.qu_script_words.specs.declared.bad.ScriptFail.TheVariants as fails
+use Rattle.qu_script_words.specs.Meaning.{then_good}
 use Rattle.qu_language.specs.declared.line.Line.{Line}
-use Rattle.qu_language.specs.Meaning.{then_good}
 use Rattle.qu_script.specs.Events.{Playing, Stopped, StopsAs, MakesPlay, event_made, deliveries_made, if_waiting, lowest_waiting, flow_made, ticks_made, line_made, lines_made}
 
 -- ---- stops

@@ -21,17 +21,17 @@ use Rattle.qu_world.specs.State.{WorldState, opening_world, correct_client}
 use Rattle.qu_world.specs.Step.{world_step}
 use Rattle.qu_world.specs.Refusals.{refusal_of}
 use Rattle.qu_world.specs.Run.{trace_of}
-use Rattle.qu_language.specs.declared.bad.Bad.{Bad}
-use Rattle.qu_language.specs.declared.bad.BadKind.{BadKind}
-use Rattle.qu_language.specs.declared.bad.BadKind.TheVariants as kind
-use Rattle.qu_language.specs.declared.bad.ScriptFail.{ScriptFail}
-use Rattle.qu_language.specs.declared.bad.ScriptFail.TheVariants as fails
+use Rattle.qu_script_words.specs.declared.bad.Bad.{Bad}
+use Rattle.qu_script_words.specs.declared.bad.BadKind.{BadKind}
+use Rattle.qu_script_words.specs.declared.bad.BadKind.TheVariants as kind
+use Rattle.qu_script_words.specs.declared.bad.ScriptFail.{ScriptFail}
+use Rattle.qu_script_words.specs.declared.bad.ScriptFail.TheVariants as fails
+use Rattle.qu_script_words.specs.Meaning.{then_good}
 use Rattle.qu_language.specs.declared.line.Line.{Line}
 use Rattle.qu_language.specs.declared.line.Line.TheVariants.{Call, Deliver, Flow, Hold, Free, Lose, Tick, Wake, Inject, Fake}
-use Rattle.qu_language.specs.declared.line.Script.{Script}
 use Rattle.qu_script.specs.declared.run.Played.{Played}
 use Rattle.qu_script.specs.Fake.{fake_of}
-use Rattle.qu_language.specs.Meaning.{then_good}
+use Rattle.qu_language.specs.declared.line.Script.{Script}
 use Rattle.qu_language.specs.Script.{script_of}
 
 -- ---- where a script stands

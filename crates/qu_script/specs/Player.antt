@@ -2,8 +2,8 @@
 use Rattle.std.specs.Prelude.{ℕ}
 use Rattle.qu_world.specs.declared.fail.WorldFail.{WorldFail}
 use Rattle.qu_world.specs.declared.fail.WorldFail.TheVariants as fail
-use Rattle.qu_language.specs.declared.bad.ScriptFail.{ScriptFail}
-use Rattle.qu_language.specs.declared.bad.ScriptFail.TheVariants as fails
+use Rattle.qu_script_words.specs.declared.bad.ScriptFail.{ScriptFail}
+use Rattle.qu_script_words.specs.declared.bad.ScriptFail.TheVariants as fails
 use Rattle.qu_script.specs.Events.{kind_of}
 
 -- how a fail of the world is told of the line with this number

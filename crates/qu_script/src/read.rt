@@ -1,10 +1,12 @@
 ghost use Rattle.std.specs.Prelude.{IfOk, true, false};
+ghost use Rattle.qu_script_words.specs.Meaning.{IsAsMeant};
 ghost use Rattle.qu_language.specs.Called.{calls_said, MayAllCall};
-ghost use Rattle.qu_language.specs.Meaning.{IsAsMeant};
 ghost use Rattle.qu_language.specs.Script.{script_of};
 ghost use Rattle.qu_world.specs.Run.{IsSetup};
 
-use qu_language::{Script, ScriptFail, read_script as read_text};
+use qu_language::Script;
+use qu_script_text::read_script as read_text;
+use qu_script_words::ScriptFail;
 use std::alloc::Global;
 
 /// Reads a script, which then may be played.

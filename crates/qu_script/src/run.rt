@@ -1,16 +1,17 @@
 ghost use Rattle.std.specs.Prelude.{◌≡◌, IfOk};
 ghost use Rattle.qu_world.specs.Run.{IsRun, IsSetup};
-ghost use Rattle.qu_language.specs.Meaning.{IsAsMeant};
+ghost use Rattle.qu_script_words.specs.Meaning.{IsAsMeant};
 ghost use Rattle.qu_script.specs.Events.{run_of, played_of};
 
 use super::player::Player;
 use qu_base::NoMemory;
-use qu_language::{Bad, Script, ScriptFail};
+use qu_language::Script;
+use qu_script_words::{Bad, ScriptFail};
 use qu_trace::Trace;
 use std::alloc::Global;
 
 /// How far the run of a script went.
-#[derive(Debug, Drop)]
+#[derive(Drop)]
 pub struct Played {
     /// What happened.
     pub trace: Trace,

@@ -4,7 +4,6 @@ ghost use Rattle.qu_seal.specs.Keys.{has_party, may_share, have_key, party_code,
 use super::hmac;
 use qu_base::{Bounds, Digest, LAST_CLIENT, List, NoMemory, Party, REPLICA_IDS, ReplicaId};
 use std::alloc::Global;
-use std::fmt;
 use std::marker::Model;
 
 /// The keys of pairs of parties, of which each pair but two clients has one.
@@ -169,16 +168,6 @@ impl KeyRing {
             }
             (Party::Replica(_) | Party::Client(_), _) => pair_key(self.seed, me, other),
         }
-    }
-}
-
-/// Shows for whom there are keys, and not the seed.
-impl fmt::Debug for KeyRing {
-    fn fmt<W: fmt::Write>(&self, f: &mut fmt::Formatter<W>) -> fmt::Result {
-        f.debug_struct("KeyRing")
-            .field("bounds", &self.bounds)
-            .field("clients", &self.clients)
-            .finish_non_exhaustive()
     }
 }
 

@@ -31,16 +31,17 @@ use Rattle.qu_replica.specs.Step.{shown, answer_frame, reply, carried_out, learn
 use Rattle.qu_replica.specs.Step as replica
 use Rattle.qu_question.specs.declared.kept.Kept.{Kept}
 use Rattle.qu_question.specs.declared.kept.Mark.TheVariants.{Unshown}
-use Rattle.qu_client.specs.declared.work.Work.{Work}
+use Rattle.qu_counting.specs.declared.work.Work.{Work}
 use Rattle.qu_client.specs.declared.state.ClientState.{ClientState}
 use Rattle.qu_client.specs.State.{Stepped}
 use Rattle.qu_client.specs.State.{client_at_start}
 use Rattle.qu_question.specs.Kept.{is_older, same_source, keep, keep_all}
-use Rattle.qu_client.specs.declared.whom.Whom.{Whom}
-use Rattle.qu_client.specs.declared.whom.Whom.TheVariants.{Others}
+use Rattle.qu_counting.specs.declared.whom.Whom.{Whom}
+use Rattle.qu_counting.specs.declared.whom.Whom.TheVariants.{Others}
 use Rattle.qu_question.specs.Kept.{unmarked}
 use Rattle.qu_question.specs.Named.{operation_objects}
-use Rattle.qu_client.specs.Rounds.{request_of, whom_asked, first_object, asking_all, begins, requests}
+use Rattle.qu_counting.specs.Whom.{whom_asked, first_object}
+use Rattle.qu_client.specs.Rounds.{request_of, asking_all, begins, requests}
 use Rattle.qu_question.specs.Marking.{marked_shown}
 use Rattle.qu_question.proofs.Trimmed.{each_of_sets}
 use Rattle.qu_client.proofs.Sent.{each_letter}

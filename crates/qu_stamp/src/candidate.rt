@@ -5,7 +5,7 @@ use qu_base::ObjectId;
 
 /// A version of an object that a replica may accept: its own stamp, the stamp of the version upon which it rests,
 /// and the objects on which it is accepted together with others.
-#[derive(Clone, Copy, Debug, PartialEq, Eq)]
+#[derive(Clone, Copy, PartialEq, Eq)]
 pub struct Candidate {
     pub stamp: Stamp,
     pub prior: Stamp,

@@ -8,7 +8,7 @@ use std::marker::Model;
 
 /// The objects on which one operation makes candidates together, each with the time of its candidate there: none,
 /// or two to four of them, by rising objects.
-#[derive(Clone, Copy, Debug)]
+#[derive(Clone, Copy)]
 pub struct Group {
     members: Pairs,
 }

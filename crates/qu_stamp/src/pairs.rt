@@ -10,7 +10,7 @@ const ROOM: usize = 4;
 const BLANK: (ObjectId, u64) = (ObjectId(0), 0);
 
 /// Objects, each with a time: at most four, in place.
-#[derive(Clone, Copy, Debug)]
+#[derive(Clone, Copy)]
 pub(crate) struct Pairs {
     len: usize,
     cells: [(ObjectId, u64); ROOM],

@@ -9,7 +9,7 @@ use std::alloc::Global;
 use std::marker::Model;
 
 /// What an answer brings.
-#[derive(Debug, Drop)]
+#[derive(Drop)]
 pub enum Fetch {
     /// The answer is the last that was needed; this is its text.
     Found(List<u8>),
@@ -30,7 +30,6 @@ impl Fetch {
 }
 
 /// A version that is being fetched, and the answers of replicas, of which each is taken once.
-#[derive(Debug)]
 pub struct Fetching {
     alloc: Global,
     need: u8,

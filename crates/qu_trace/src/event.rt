@@ -5,7 +5,6 @@ use qu_objects::Op;
 use std::alloc::Global;
 
 /// One step of a run: something happens at one party.
-#[derive(Debug)]
 pub enum Event {
     /// A client begins an operation.
     Invoke(ClientId, Op),

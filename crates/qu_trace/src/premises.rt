@@ -1,5 +1,5 @@
 /// What an audit of a run tells of the premises of its order. Events are numbered from 1.
-#[derive(Clone, Copy, Debug, PartialEq, Eq)]
+#[derive(Clone, Copy, PartialEq, Eq)]
 pub enum Premises {
     /// Nothing is forged, and no two texts have one digest.
     Hold,

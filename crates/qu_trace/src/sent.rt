@@ -13,7 +13,6 @@ use std::marker::Model;
 
 /// Where the letters of each entry of a run begin among all letters, counted from 0. A number that 64 bits do not hold
 /// stands as their greatest one.
-#[derive(Debug)]
 pub struct Starts {
     /// For each entry the number of letters before its own.
     pub places: Vec<u64>,

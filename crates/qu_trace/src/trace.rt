@@ -8,7 +8,6 @@ use qu_objects::{KindName, Outcome};
 use std::alloc::Global;
 
 /// Who takes part in a run, and what objects there are.
-#[derive(Debug)]
 pub struct Setup {
     pub bounds: Bounds,
     /// For the keys, and for waits once there are any.
@@ -67,7 +66,6 @@ fn is_same(one: Party, other: Party) -> bool
 }
 
 /// An event of a run, and what it made.
-#[derive(Debug)]
 pub struct Entry {
     pub event: Event,
     /// The letters that were sent.
@@ -106,7 +104,6 @@ impl Entry {
 }
 
 /// A run, from its setup on. Events are numbered from 1, and so are letters.
-#[derive(Debug)]
 pub struct Trace {
     pub setup: Setup,
     pub entries: List<Entry>,

@@ -8,7 +8,7 @@ use std::collections::LinkedList;
 use std::marker::Model;
 
 /// Versions with the room that a store takes to hold them, which a step that is planned will store.
-#[derive(Debug, Drop)]
+#[derive(Drop)]
 pub struct Prepared {
     versions: LinkedList<Stored>,
 }

@@ -15,7 +15,6 @@ use std::collections::LinkedList;
 use std::marker::Model;
 
 /// The versions of objects, each under its stamp. It only grows: a version that is held is never replaced.
-#[derive(Debug)]
 pub struct VersionStore {
     alloc: Global,
     versions: LinkedList<Stored>,

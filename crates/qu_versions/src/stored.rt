@@ -6,7 +6,6 @@ use qu_stamp::Stamp;
 use std::alloc::Global;
 
 /// A version of an object, under the stamp of its candidate.
-#[derive(Debug)]
 pub struct Stored {
     pub object: ObjectId,
     pub stamp: Stamp,

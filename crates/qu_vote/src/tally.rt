@@ -28,7 +28,7 @@ impl From<NoMemory> for VoteFail {
 }
 
 /// The answers of replicas, of which each is counted once.
-#[derive(Debug, Drop)]
+#[derive(Drop)]
 pub struct Tally<T> {
     votes: List<Vote<T>>,
 }

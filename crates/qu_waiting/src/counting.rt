@@ -1,5 +1,5 @@
 /// Whether a version that a replica sends counts as its answer to a fetch.
-#[derive(Clone, Copy, Debug, PartialEq, Eq)]
+#[derive(Clone, Copy, PartialEq, Eq)]
 pub enum Counting {
     /// No fetch of the version runs.
     NotFetched,

@@ -6,7 +6,6 @@ use qu_base::{ClientId, List, ObjectId};
 use qu_stamp::Stamp;
 
 /// What the slot of a client holds from now on.
-#[derive(Debug)]
 pub enum Next {
     /// No request waits.
     Nothing,
@@ -42,7 +41,6 @@ impl Next {
 }
 
 /// A slot that changes: whose it is, and what it holds from now on.
-#[derive(Debug)]
 pub struct Turn {
     pub client: ClientId,
     pub next: Next,

@@ -6,7 +6,6 @@ use qu_sync::Fetching;
 use std::marker::Model;
 
 /// A version that other replicas were asked for, and what they answered.
-#[derive(Debug)]
 pub struct Running {
     pub object: ObjectId,
     pub stamp: Stamp,

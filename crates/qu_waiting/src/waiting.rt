@@ -4,14 +4,14 @@ ghost use Rattle.qu_frames.specs.Signing.{brought};
 ghost use Rattle.qu_rows.specs.Waiting.{taken_by};
 
 use qu_base::{List, NoMemory, ObjectId, Party};
-use qu_frames::{Frame, Reading, receive};
+use qu_decoding::{read_request, receive};
+use qu_frames::{Frame, Reading};
 use qu_seal::KeyRing;
 use qu_stamp::Stamp;
 use std::alloc::Global;
 use std::marker::Model;
 
 /// A request that waits for versions, as it came.
-#[derive(Debug)]
 pub struct Waiting {
     pub reading: Reading,
     /// The HMAC that it had.
@@ -60,7 +60,7 @@ impl Waiting {
         let Some(Frame::Request { mac, .. }) = receive(alloc, keys, me, text)? else {
             unreachable!()
         };
-        match Reading::of(alloc, text)? {
+        match read_request(alloc, text)? {
             Some(again) => {
                 if !again.is_brought(keys, me, text) {
                     unreachable!();

@@ -1,5 +1,5 @@
 /// What a program tells of the run of a script.
-#[derive(Clone, Copy, Debug, PartialEq, Eq)]
+#[derive(Clone, Copy, PartialEq, Eq)]
 pub enum Telling {
     /// Its operations, in a report.
     Operations,
@@ -14,7 +14,7 @@ pub enum Telling {
 }
 
 /// What a program is asked to do, with the script on the input or with that of a number.
-#[derive(Clone, Copy, Debug, PartialEq, Eq)]
+#[derive(Clone, Copy, PartialEq, Eq)]
 pub enum Command {
     /// Runs the script on the input event by event, and tells this of the run.
     Sim(Telling),

@@ -8,13 +8,14 @@ ghost use Rattle.qu_world.specs.Parties.{ReplicaMoves, ClientMoves, IsIdle};
 
 use qu_base::{ClientId, List, NoMemory, ReplicaId};
 use qu_client::{Client, InvokeFail};
+use qu_decoding::read_request;
 use qu_frames::{Letter, Reading};
 use qu_objects::{Op, Outcome};
 use qu_replica::Replica;
 use std::alloc::Global;
 
 /// What a party made: its letters, and the operation that ended.
-#[derive(Debug, Drop)]
+#[derive(Drop)]
 pub struct Made {
     pub letters: List<Letter>,
     pub ended: Option<(ClientId, u64, Outcome)>,
@@ -86,7 +87,7 @@ fn read(alloc: Global, last: &mut Option<Reading>, text: &[u8]) -> Result<(), No
             return Ok(());
         }
     }
-    *last = Reading::of(alloc, text)?;
+    *last = read_request(alloc, text)?;
     Ok(())
 }
 

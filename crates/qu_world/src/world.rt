@@ -28,7 +28,6 @@ use std::alloc::Global;
 use std::marker::Model;
 
 /// A run under way: the replicas and clients of a setup, and the record of the events so far.
-#[derive(Debug)]
 pub struct World {
     alloc: Global,
     trace: Trace,

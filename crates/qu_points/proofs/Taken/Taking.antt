@@ -37,11 +37,12 @@ use Rattle.qu_known.specs.declared.tracked.Tracked.{Tracked}
 use Rattle.qu_points.proofs.Handled.HandledActs.{handled_among, among_handled}
 use Rattle.qu_marks.specs.Tracker.{TellsFirst, TellsOf, Tracks}
 use Rattle.qu_claims.specs.Order.{DecidesAt, AnswersFirst, completed_effect, query_effect}
-use Rattle.qu_points.specs.Points.{NamedAct, act_mark, handled_acts, is_named_act, is_of_update, first_mark, answers_in, effect_of}
+use Rattle.qu_points.specs.Points.{NamedAct, act_mark, handled_acts, is_named_act, answers_in, effect_of}
 use Rattle.qu_marks.proofs.DecidedWorlds.{decided_is_accepted}
 use Rattle.qu_marks.proofs.Settling.{IsTrackedAt, stands_in}
 use Rattle.qu_marks.proofs.Places.{position_none}
-use Rattle.qu_points.proofs.Taken.Firsts.{HasMark, first_mark_found, first_mark_least}
+use Rattle.qu_first_marks.specs.FirstMark.{is_of_update, first_mark}
+use Rattle.qu_first_marks.proofs.Firsts.{HasMark, first_mark_found, first_mark_least}
 
 -- ---- updates
 

@@ -30,7 +30,8 @@ use Rattle.qu_rows.specs.State.{ReplicaState}
 use Rattle.qu_fitting.specs.Holding.{accept_all}
 use Rattle.qu_waiting.specs.Slots.{first_waiting, without_request, lacks}
 use Rattle.qu_rows.specs.Rows.{Asked, asked_at, unknown_in, decision_on}
-use Rattle.qu_replica.specs.Step.{shown, named, answer_frame, carried_out, replica_on_frame, replica_on_received, replica_step, version_letters, with_found, with_told, learned, handled, fetches_from, fetches_of, decided, if_handled, is_found}
+use Rattle.qu_handling.specs.Named.{named}
+use Rattle.qu_replica.specs.Step.{shown, answer_frame, carried_out, replica_on_frame, replica_on_received, replica_step, version_letters, with_found, with_told, learned, handled, fetches_from, fetches_of, decided, if_handled, is_found}
 use Rattle.qu_rows.specs.Allowed.{MayDecide}
 use Rattle.qu_fitting.specs.Fits.{StateFits, StepFits, VersionFits, LetterFits, SlotFits, VersionsFit}
 use Rattle.qu_rows.proofs.Own.{IsOwn, own_history}

@@ -30,7 +30,8 @@ use Rattle.qu_mends.specs.Table.{candidates_in}
 use Rattle.qu_rows.specs.Allowed.{MayAccept, MayAcceptAll, MayDecide}
 use Rattle.qu_fitting.specs.Holding.{with_candidate, accept, accept_all}
 use Rattle.qu_replica.specs.Growth.{HoldsAlike}
-use Rattle.qu_replica.specs.Step.{shown, named, reply, with_found, carried_out, decided}
+use Rattle.qu_handling.specs.Named.{named}
+use Rattle.qu_replica.specs.Step.{shown, reply, with_found, carried_out, decided}
 
 -- ---- decisions
 

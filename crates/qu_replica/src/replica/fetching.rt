@@ -16,10 +16,11 @@ ghost use Rattle.qu_waiting.specs.Slots.{with_fetches, without_fetch, first_wait
 ghost use Rattle.qu_replica.specs.Growth.{MayGain};
 ghost use Rattle.qu_replica.specs.Step.{is_value_of, has_kind, with_found, with_waiting, fetch_letter, fetches_from, fetches_of, counting, decided, if_handled, replica_on_frame};
 
-use super::{Handled, Replica};
+use super::Replica;
 use crate::planned::{Gain, Planned};
 use qu_base::{List, NoMemory, ObjectId, Outbytes, Party, ReplicaId};
 use qu_frames::{Frame, Letter, Reading, blank_mac};
+use qu_handling::{Handled, handle};
 use qu_objects::{KindName, ObjState, Value, write_state};
 use qu_rows::Decision;
 use qu_stamp::Stamp;
@@ -303,7 +304,13 @@ impl Replica {
         let reading = &waiting.reading;
         let client = reading.client();
         let more = unless_held(held, &found);
-        let Handled { named, decision } = self.handle(&self.rows(more), reading)?;
+        let Handled { named, decision } = handle(
+            self.alloc,
+            self.me,
+            &self.keys,
+            &self.rows(more),
+            reading,
+        )?;
         let gain = gain_found(self.alloc, found, held)?;
         match decision {
             Decision::Answers { verdict, accepted } => {

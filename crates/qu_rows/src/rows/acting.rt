@@ -5,7 +5,7 @@ ghost use Rattle.qu_stamp.specs.declared.limits.TheConstants.{LAST_TIME};
 ghost use Rattle.qu_stamp.specs.Stamp.{is_below};
 ghost use Rattle.qu_rows.specs.State.{own_candidates, own_latest};
 ghost use Rattle.qu_mends.specs.Table.{has_no_room};
-ghost use Rattle.qu_rows.specs.Rows.{class_code, unknown_in, unknown_refused, row_thin, standing_in, repeated};
+ghost use Rattle.qu_rows.specs.Rows.{class_code, unknown_in, unknown_refused, standing_in, repeated};
 ghost use Rattle.qu_rows.specs.SeenRows.{version_seen, versions_under, base_keys, current_on, method_on, version_on, kept_by, time_on, full_on, told_on};
 
 use super::Rows;
@@ -18,7 +18,8 @@ use qu_frames::{ClassCode, Refusal, Verdict};
 use qu_history::Sets;
 use qu_kept::{Standing, standing_of};
 use qu_mends::{Seen, has_no_room};
-use qu_objects::{Act, ObjState, Query, tell_all};
+use qu_objects::{Act, ObjState, Query};
+use qu_performing::tell_all;
 use qu_stamp::LAST_TIME;
 use std::alloc::Global;
 
@@ -36,23 +37,9 @@ impl<'a> Rows<'a> {
         Some(refuse(self.alloc, Refusal::UnknownObject(set.object)))
     }
 
-    /// Refuses sets with fewer entries of an object than a quorum.
-    #[tactic(auto, unfolding(crate::specs::Rows::row_thin))]
-    pub(super) fn row_thin(&self, asked: &Asked) -> Option<Decision>
-        ensures { result ≡ row_thin self.now asked.now }
-    {
-        let quorum = usize::from(self.keys.bounds().q());
-        let set = asked
-            .sets
-            .objects()
-            .iter()
-            .find(|set| set.entries.len() < quorum)?;
-        Some(refuse(self.alloc, Refusal::Thin(set.object)))
-    }
-
     /// Refuses sets that do not show the replica's own latest candidate of each object.
     #[tactic(auto, unfolding(crate::specs::SeenRows::current_on))]
-    pub(super) fn row_current(&self, seen: &[Seen]) -> Option<Decision>
+    pub fn row_current(&self, seen: &[Seen]) -> Option<Decision>
         ensures { result ≡ current_on self.now seen.now }
     {
         let late = self.first_late(seen)?;
@@ -70,7 +57,7 @@ impl<'a> Rows<'a> {
 
     /// Waits for the versions that are missing upon which the operation rests.
     #[tactic(auto, using(crate::proofs::Shown::versions_whole), unfolding(crate::specs::SeenRows::version_on))]
-    pub(super) fn row_version(&self, seen: &[Seen]) -> Result<Option<Decision>, NoMemory>
+    pub fn row_version(&self, seen: &[Seen]) -> Result<Option<Decision>, NoMemory>
         ensures versions { IfOk result (λ row. IfNone row
             (length (versions_under self.now (base_keys seen.now)) ≡ length seen.now)) }
         ensures value { IfOk result (λ row. row ≡ version_on self.now seen.now) }
@@ -103,7 +90,7 @@ impl<'a> Rows<'a> {
 
     /// Refuses objects whose history is full.
     #[tactic(auto, unfolding(crate::specs::SeenRows::full_on))]
-    pub(super) fn row_full(&self, seen: &[Seen]) -> Option<Decision>
+    pub fn row_full(&self, seen: &[Seen]) -> Option<Decision>
         ensures { result ≡ full_on self.now seen.now }
     {
         let full = self.first_full(seen)?;
@@ -129,7 +116,7 @@ impl<'a> Rows<'a> {
 
     /// Answers the query from the versions on which it rests.
     #[tactic(auto, unfolding(crate::specs::SeenRows::told_on))]
-    pub(super) fn row_told(&self, query: &Query, seen: &[Seen]) -> Result<Decision, NoMemory>
+    pub fn row_told(&self, query: &Query, seen: &[Seen]) -> Result<Decision, NoMemory>
         requires one_each { length seen.now ≡ length query.now }
         requires versions { length (versions_under self.now (base_keys seen.now)) ≡ length seen.now }
         ensures { IfOk result (λ decision. told_on self.now query.now seen.now ≡ Some decision) }
@@ -146,7 +133,7 @@ impl<'a> Rows<'a> {
 
 /// Refuses objects upon which no operation may rest.
 #[tactic(auto, unfolding(crate::specs::SeenRows::method_on))]
-pub(super) fn row_method(alloc: Global, seen: &[Seen]) -> Option<Decision>
+pub fn row_method(alloc: Global, seen: &[Seen]) -> Option<Decision>
     ensures { result ≡ method_on seen.now }
 {
     let other = first_other(seen)?;
@@ -164,7 +151,7 @@ fn first_other(seen: &[Seen]) -> Option<&Seen>
 /// Tells the answer of an act that was performed before, and refuses one whose number is spent, by the versions on
 /// which it rests.
 #[tactic(auto, unfolding(crate::specs::SeenRows::kept_by))]
-pub(super) fn row_kept(
+pub fn row_kept(
     alloc: Global,
     asked: &Asked,
     act: &Act,
@@ -178,7 +165,7 @@ pub(super) fn row_kept(
 
 /// Refuses objects whose time is spent.
 #[tactic(auto, unfolding(crate::specs::SeenRows::time_on))]
-pub(super) fn row_time(alloc: Global, seen: &[Seen]) -> Option<Decision>
+pub fn row_time(alloc: Global, seen: &[Seen]) -> Option<Decision>
     ensures in_time { IfNone result (All (λ one. one.latest.time < LAST_TIME) seen.now) }
     ensures value { result ≡ time_on seen.now }
 {

@@ -13,7 +13,7 @@ use std::alloc::Global;
 // The versions upon which an operation rests, in the order of its parts.
 impl<'a> Rows<'a> {
     /// The versions upon which it rests, where the replica has them.
-    pub(super) fn base_versions(&self, seen: &[Seen]) -> Result<List<ObjState>, NoMemory>
+    pub fn base_versions(&self, seen: &[Seen]) -> Result<List<ObjState>, NoMemory>
         ensures { IfOk result (λ versions. versions ≡ versions_under self.now (base_keys seen.now)) }
     {
         let bases = base_keys(self.alloc, seen)?;

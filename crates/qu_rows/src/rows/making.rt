@@ -7,14 +7,14 @@ use crate::asked::Asked;
 use crate::decision::Decision;
 use qu_base::{List, NoMemory, ObjectId};
 use qu_frames::Verdict;
-use qu_kept::{Performed, perform};
 use qu_mends::{Accepted, Seen};
 use qu_objects::{Act, ObjState};
+use qu_performing::{Performed, perform};
 use qu_stamp::{Candidate, Group, Stamp};
 use std::alloc::Global;
 
 /// Performs the act upon the versions on which it rests, and accepts all its candidates.
-pub(super) fn row_done(
+pub fn row_done(
     alloc: Global,
     asked: &Asked,
     act: &Act,

@@ -6,7 +6,7 @@ ghost use Rattle.qu_plan.specs.Linking.{linking};
 ghost use Rattle.qu_frames.specs.declared.verdict.Verdict.TheVariants.{Mended};
 ghost use Rattle.qu_mends.specs.Remedy.{course_of};
 ghost use Rattle.qu_rows.specs.declared.decision.Decision.TheVariants.{Answers};
-ghost use Rattle.qu_rows.specs.Rows.{shown_of, row_few, linking_of, evidence_for, waits_for, row_evidence, facts_of, wanted_version, part_of, mending_on, decision_by, decide_repair, row_unknown};
+ghost use Rattle.qu_rows.specs.Rows.{shown_of, row_few, linking_of, evidence_for, waits_for, row_evidence, facts_of, wanted_version, part_of, mending_on, decision_by, decide_repair, row_unknown, row_thin};
 
 use super::Rows;
 use crate::asked::Asked;
@@ -23,19 +23,13 @@ use std::alloc::Global;
 
 // The rows of a request to mend an object.
 impl<'a> Rows<'a> {
-    /// What it makes of a request to mend an object.
+    /// What it makes of a request to mend an object, where no object of the sets is unknown or thin.
     #[tactic(auto, unfolding(crate::specs::Rows::decide_repair, crate::specs::Rows::row_evidence, qu_mends::specs::Table::first_given))]
-    pub(super) fn decide_repair(
-        &self,
-        asked: &Asked,
-        target: ObjectId,
-    ) -> Result<Decision, NoMemory>
-        requires { row_unknown self.now asked.now ≡ None }
+    pub fn rows_of_repair(&self, asked: &Asked, target: ObjectId) -> Result<Decision, NoMemory>
+        requires known { row_unknown self.now asked.now ≡ None }
+        requires enough { row_thin self.now asked.now ≡ None }
         ensures { IfOk result (λ decision. decision ≡ decide_repair self.now asked.now target) }
     {
-        if let Some(refusal) = self.row_thin(asked) {
-            return Ok(refusal);
-        }
         if let Some(refusal) = self.row_few(asked, target) {
             return Ok(refusal);
         }

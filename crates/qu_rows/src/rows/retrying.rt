@@ -20,7 +20,7 @@ use std::alloc::Global;
 impl<'a> Rows<'a> {
     /// Tells the kept answer where the replica holds all candidates of the act already.
     #[tactic(auto, unfolding(crate::specs::SeenRows::retry_on))]
-    pub(super) fn row_retry(
+    pub fn row_retry(
         &self,
         asked: &Asked,
         act: &Act,

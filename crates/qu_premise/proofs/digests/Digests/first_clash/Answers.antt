@@ -1,7 +1,7 @@
 use Rattle.std.proofs.Common.{◌≡◌, ◌+◌, get_or, drop, ap, ◌∙◌}
 use Rattle.qu_trace.specs.Earliest.{earlier_of}
 use Rattle.qu_premise.specs.Digests.{look, clash, first_clash}
-use Rattle.qu_premise.proofs.Collisions.{first_clash_more}
+use Rattle.qu_premise.proofs.Clashes.{first_clash_more}
 use Rattle.qu_premise.proofs.digests.Digests.first_clash.Goals as goal
 
 pub loop-text-preserved : goal.loop-text-preserved

@@ -1,0 +1,3 @@
+mod Collisions
+mod Steps
+mod Unique

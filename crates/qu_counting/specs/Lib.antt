@@ -1,0 +1,4 @@
+pub mod Whom
+pub mod Verdicts
+pub mod Work
+pub mod Needed

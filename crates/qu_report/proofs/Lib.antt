@@ -1,0 +1,2 @@
+pub mod RangeFacts
+pub mod ReportFacts

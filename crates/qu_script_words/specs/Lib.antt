@@ -1,0 +1,4 @@
+pub mod Meaning
+pub mod Words
+pub mod Rules
+pub mod Parties
