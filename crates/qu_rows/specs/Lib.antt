@@ -1,4 +1,3 @@
-pub mod Waiting
 pub mod State
 pub mod Rows
 pub mod SeenRows
