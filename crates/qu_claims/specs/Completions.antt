@@ -7,8 +7,8 @@ use Rattle.qu_base.specs.Bounds.{replicas, quorum}
 use Rattle.qu_history.specs.declared.sealed.Sealed.{Sealed}
 use Rattle.qu_objects.specs.declared.answer.Answer.{Answer}
 use Rattle.qu_frames.specs.declared.frame.Letter.{Letter}
-use Rattle.qu_frames.specs.declared.verdict.Verdict.{Verdict}
-use Rattle.qu_frames.specs.Verdict.{same_verdict}
+use Rattle.qu_verdicts.specs.declared.verdict.Verdict.{Verdict}
+use Rattle.qu_verdicts.specs.Verdict.{same_verdict}
 use Rattle.qu_frames.specs.Body.{body_of}
 use Rattle.qu_counting.specs.Verdicts.{fitting}
 use Rattle.qu_machine.specs.declared.record.OpRecord.{OpRecord}

@@ -13,7 +13,7 @@ use Rattle.qu_objects.specs.declared.answer.Answer.{Answer}
 use Rattle.qu_objects.specs.declared.op.Op.{Op}
 use Rattle.qu_objects.specs.declared.op.Op.TheVariants as op
 use Rattle.qu_objects.specs.Digesting.{act_digest}
-use Rattle.qu_frames.specs.declared.verdict.Verdict.TheVariants as verdict
+use Rattle.qu_verdicts.specs.declared.verdict.Verdict.TheVariants as verdict
 use Rattle.qu_machine.specs.declared.record.OpRecord.{OpRecord}
 use Rattle.qu_machine.specs.Serial.{Completes}
 use Rattle.qu_rows.specs.State.{ReplicaState, own_candidates}
@@ -25,7 +25,7 @@ use Rattle.qu_claims.specs.Accepted.{accepts}
 use Rattle.qu_claims.specs.Times.{world_after}
 use Rattle.qu_claims.specs.Setting.{IsAncestor}
 use Rattle.qu_claims.specs.RunSetting.{setting}
-use Rattle.qu_frames.specs.declared.verdict.Verdict.{Verdict}
+use Rattle.qu_verdicts.specs.declared.verdict.Verdict.{Verdict}
 use Rattle.std.proofs.Common.{◌⊎◌}
 
 -- what the quorum accepted is the act's candidate; where the act is told to be done already, it is that, or a later one

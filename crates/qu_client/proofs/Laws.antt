@@ -10,7 +10,7 @@ use Rattle.qu_base.specs.declared.party.ReplicaId.{ReplicaId}
 use Rattle.qu_seal.specs.Keys.{Ring}
 use Rattle.qu_objects.specs.declared.op.Op.{Op}
 use Rattle.qu_frames.specs.declared.limits.TheConstants.{LAST_ROUND}
-use Rattle.qu_frames.specs.declared.verdict.Verdict.{Verdict}
+use Rattle.qu_verdicts.specs.declared.verdict.Verdict.{Verdict}
 use Rattle.qu_question.specs.declared.kept.Kept.{Kept}
 use Rattle.qu_counting.specs.declared.work.Counted.{Counted}
 use Rattle.qu_counting.specs.declared.work.Phase.{Phase}

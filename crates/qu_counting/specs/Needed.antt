@@ -4,9 +4,9 @@ use Rattle.std.specs.Prelude.{ℕ, Bool, false, ◌==◌, nat_lt, List, map, fil
 use Rattle.std.specs.List.{fold, range_with_len}
 use Rattle.qu_base.specs.declared.limits.TheConstants.{OBJECT_IDS}
 use Rattle.qu_base.specs.declared.party.ObjectId.{ObjectId}
-use Rattle.qu_frames.specs.declared.verdict.Refusal.TheVariants as refusal
-use Rattle.qu_frames.specs.declared.verdict.Verdict.{Verdict}
-use Rattle.qu_frames.specs.declared.verdict.Verdict.TheVariants as verdict
+use Rattle.qu_verdicts.specs.declared.verdict.Refusal.TheVariants as refusal
+use Rattle.qu_verdicts.specs.declared.verdict.Verdict.{Verdict}
+use Rattle.qu_verdicts.specs.declared.verdict.Verdict.TheVariants as verdict
 use Rattle.qu_counting.specs.declared.work.Counted.{Counted}
 use Rattle.qu_question.specs.Named.{with_named}
 

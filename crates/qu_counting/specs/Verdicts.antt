@@ -5,9 +5,9 @@ use Rattle.qu_base.specs.Bounds.{replicas, quorum}
 use Rattle.qu_objects.specs.declared.answer.Answer.{Answer}
 use Rattle.qu_frames.specs.declared.frame.Body.{Body}
 use Rattle.qu_frames.specs.declared.frame.Body.TheVariants as body
-use Rattle.qu_frames.specs.declared.verdict.Verdict.{Verdict}
-use Rattle.qu_frames.specs.declared.verdict.Verdict.TheVariants as verdict
-use Rattle.qu_frames.specs.Verdict.{same_verdict}
+use Rattle.qu_verdicts.specs.declared.verdict.Verdict.{Verdict}
+use Rattle.qu_verdicts.specs.declared.verdict.Verdict.TheVariants as verdict
+use Rattle.qu_verdicts.specs.Verdict.{same_verdict}
 use Rattle.qu_counting.specs.declared.whom.Whom.{Whom}
 use Rattle.qu_counting.specs.declared.work.Counted.{Counted}
 use Rattle.qu_counting.specs.Whom.{is_asked}

@@ -12,7 +12,7 @@ use Rattle.qu_objects.specs.declared.state.ObjState.{ObjState}
 use Rattle.qu_objects.specs.Performing.{performed_answer, told_answer}
 use Rattle.qu_kept.specs.Performing.{values_of, performed_states}
 use Rattle.qu_kept.proofs.EachObject.{AreDistinct, objects_named, version_after, states_are}
-use Rattle.qu_frames.specs.declared.verdict.Verdict.TheVariants.{Done, Told}
+use Rattle.qu_verdicts.specs.declared.verdict.Verdict.TheVariants.{Done, Told}
 use Rattle.qu_mends.specs.declared.accepted.Accepted.{Accepted}
 use Rattle.qu_rows.specs.declared.decision.Decision.{Decision}
 use Rattle.qu_rows.specs.declared.decision.Decision.TheVariants.{Answers}

@@ -16,10 +16,10 @@ use Rattle.qu_history.specs.History.{ObjectHistory, is_history, greatest_stamp, 
 use Rattle.qu_history.specs.Formats.{set_form, sets_form}
 use Rattle.qu_history.proofs.Rising.{latest_is_last}
 use Rattle.qu_history.proofs.Stamps.{holds_last}
-use Rattle.qu_frames.specs.declared.verdict.Refusal.{Refusal}
-use Rattle.qu_frames.specs.declared.verdict.Refusal.TheVariants.{UnknownObject, Thin}
-use Rattle.qu_frames.specs.declared.verdict.Verdict.TheVariants.{Refused}
-use Rattle.qu_frames.specs.Formats.{verdict_form}
+use Rattle.qu_verdicts.specs.declared.verdict.Refusal.{Refusal}
+use Rattle.qu_verdicts.specs.declared.verdict.Refusal.TheVariants.{UnknownObject, Thin}
+use Rattle.qu_verdicts.specs.declared.verdict.Verdict.TheVariants.{Refused}
+use Rattle.qu_verdicts.specs.Formats.{verdict_form}
 use Rattle.qu_rows.specs.declared.decision.Decision.{Decision}
 use Rattle.qu_rows.specs.declared.decision.Decision.TheVariants.{Answers, Waits}
 use Rattle.qu_rows.specs.State.{ReplicaState, own_latest}

@@ -12,11 +12,11 @@ use Rattle.qu_stamp.specs.Formats.{stamp_form, plain_stamp_form, group_form}
 use Rattle.qu_history.specs.History.{latest}
 use Rattle.qu_history.specs.Sets.{latest_of}
 use Rattle.qu_objects.specs.declared.state.ObjState.{ObjState}
-use Rattle.qu_frames.specs.declared.verdict.Refusal.{Refusal}
-use Rattle.qu_frames.specs.declared.verdict.Refusal.TheVariants.{UnknownObject, Thin, Needs, Stale, NotCurrent, NotMethod, TimeSpent, HistoryFull, Sound}
-use Rattle.qu_frames.specs.declared.verdict.Refusal.TheVariants as refusal
-use Rattle.qu_frames.specs.declared.verdict.Verdict.TheVariants.{Refused}
-use Rattle.qu_frames.specs.Formats.{verdict_form}
+use Rattle.qu_verdicts.specs.declared.verdict.Refusal.{Refusal}
+use Rattle.qu_verdicts.specs.declared.verdict.Refusal.TheVariants.{UnknownObject, Thin, Needs, Stale, NotCurrent, NotMethod, TimeSpent, HistoryFull, Sound}
+use Rattle.qu_verdicts.specs.declared.verdict.Refusal.TheVariants as refusal
+use Rattle.qu_verdicts.specs.declared.verdict.Verdict.TheVariants.{Refused}
+use Rattle.qu_verdicts.specs.Formats.{verdict_form}
 use Rattle.qu_stamp.specs.declared.candidate.Candidate.{Candidate}
 use Rattle.qu_history.specs.declared.sets.SetOf.{SetOf}
 use Rattle.qu_class.specs.Class.{is_copy, class_in}

@@ -29,10 +29,10 @@ use Rattle.qu_kept.specs.Performing.{values_of, row_by, links_to_others}
 use Rattle.qu_kept.specs.Rows.{client_of}
 use Rattle.qu_kept.proofs.EachObject.{objects_named, value_after, values_before, values_are}
 use Rattle.qu_kept.proofs.KeyedLaws.{all_both, all_with, rising_with}
-use Rattle.qu_frames.specs.declared.verdict.Refusal.{Refusal}
-use Rattle.qu_frames.specs.declared.verdict.Refusal.TheVariants.{NotCurrent, NotMethod, TimeSpent, HistoryFull}
-use Rattle.qu_frames.specs.declared.verdict.Verdict.TheVariants.{Refused}
-use Rattle.qu_frames.specs.Formats.{stamps_form, verdict_form}
+use Rattle.qu_verdicts.specs.declared.verdict.Refusal.{Refusal}
+use Rattle.qu_verdicts.specs.declared.verdict.Refusal.TheVariants.{NotCurrent, NotMethod, TimeSpent, HistoryFull}
+use Rattle.qu_verdicts.specs.declared.verdict.Verdict.TheVariants.{Refused}
+use Rattle.qu_verdicts.specs.Formats.{stamps_form, verdict_form}
 use Rattle.qu_versions.specs.Versions.{version_at}
 use Rattle.qu_rows.specs.declared.decision.Decision.{Decision}
 use Rattle.qu_rows.specs.declared.decision.Decision.TheVariants.{Waits}

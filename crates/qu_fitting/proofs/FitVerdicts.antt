@@ -24,13 +24,13 @@ use Rattle.qu_objects.specs.Performing.{outcomes, refusal_from, items_of, change
 use Rattle.qu_objects.specs.Formats.{item_form, answer_form}
 use Rattle.qu_kept.proofs.EachObject.{objects_named}
 use Rattle.qu_kept.proofs.PerformedStates.{made_each}
-use Rattle.qu_frames.specs.declared.verdict.ClassCode.{ClassCode}
-use Rattle.qu_frames.specs.declared.verdict.ClassCode.TheVariants.{InlineMethod, Copy, InlineBarrier, Barrier, Needs}
-use Rattle.qu_frames.specs.declared.verdict.Refusal.{Refusal}
-use Rattle.qu_frames.specs.declared.verdict.Refusal.TheVariants.{HistoryFull, Thin, NotCurrent, NotMethod, Spent, TimeSpent, UnknownObject, Sound}
-use Rattle.qu_frames.specs.declared.verdict.Refusal.TheVariants as refusal
-use Rattle.qu_frames.specs.declared.verdict.Verdict.TheVariants.{Done, Told, Already, Mended, Refused}
-use Rattle.qu_frames.specs.Formats.{class_form, refusal_form, stamp_from, after_told, stamps_form, verdict_form}
+use Rattle.qu_verdicts.specs.declared.verdict.ClassCode.{ClassCode}
+use Rattle.qu_verdicts.specs.declared.verdict.ClassCode.TheVariants.{InlineMethod, Copy, InlineBarrier, Barrier, Needs}
+use Rattle.qu_verdicts.specs.declared.verdict.Refusal.{Refusal}
+use Rattle.qu_verdicts.specs.declared.verdict.Refusal.TheVariants.{HistoryFull, Thin, NotCurrent, NotMethod, Spent, TimeSpent, UnknownObject, Sound}
+use Rattle.qu_verdicts.specs.declared.verdict.Refusal.TheVariants as refusal
+use Rattle.qu_verdicts.specs.declared.verdict.Verdict.TheVariants.{Done, Told, Already, Mended, Refused}
+use Rattle.qu_verdicts.specs.Formats.{class_form, refusal_form, stamp_from, after_told, stamps_form, verdict_form}
 use Rattle.qu_fitting.specs.Fits.{ValueFits}
 use Rattle.qu_fitting.proofs.CarriedEach.{with_stamps}
 use Rattle.qu_kept.proofs.RisingObjects.{RiseFrom}

@@ -12,7 +12,7 @@ use Rattle.qu_history.specs.Sets.{latest_of}
 use Rattle.qu_objects.specs.declared.kind.KindName.TheVariants.{Counter}
 use Rattle.qu_objects.specs.declared.state.ObjState.{ObjState}
 use Rattle.qu_objects.specs.Kind.{opening_version}
-use Rattle.qu_frames.specs.declared.verdict.Refusal.TheVariants.{NotCurrent, NotMethod}
+use Rattle.qu_verdicts.specs.declared.verdict.Refusal.TheVariants.{NotCurrent, NotMethod}
 use Rattle.qu_rows.specs.declared.decision.Decision.{Decision}
 use Rattle.qu_rows.specs.State.{ReplicaState, own_latest}
 use Rattle.qu_rows.specs.Rows.{Asked, shown_of, method_base, base_version, class_told, row_current, row_method, row_version}

@@ -1,4 +1,4 @@
--- The formats of refusals, verdicts, bodies and frames are exact.
+-- The formats of bodies and frames are exact.
 use Rattle.std.proofs.Common.{◌≡◌, ℕ, ◌^◌, ◌-◌, ◌==◌, false, List, Option, None, Some, refl, sym, ap, ◌∙◌, arith}
 use Rattle.std.specs.Prelude.{IsTrue}
 use Rattle.std.proofs.lemmas.Bool.{eqb-true}
@@ -23,8 +23,9 @@ use Rattle.qu_frames.specs.declared.frame.Body.TheVariants as body
 use Rattle.qu_frames.specs.declared.frame.Frame.{Frame}
 use Rattle.qu_frames.specs.declared.frame.Frame.TheVariants.{Request, Reply, Fetch, Fetched}
 use Rattle.qu_frames.specs.declared.limits.TheConstants.{LAST_ROUND, CULLED_LIMIT}
-use Rattle.qu_frames.specs.Formats.{refusal_form, stamps_form, verdict_form, body_code, is_body_code, act_parts, ask_parts, body_of_code, body_form, round_form, is_after_pair, spelled_pair, pair_after, culled_form, RequestFields, request_fields, request_made, request_form, request_frame, ReplyFields, reply_fields, reply_of, reply_form, reply_frame, FetchFields, fetch_fields, fetch_of, fetch_form, fetch_frame, FetchedFields, fetched_fields, fetched_of, fetched_form, fetched_frame, frame_kind, is_version, is_frame_kind, frame_body, kind_form, frame_form, mend_target, target_form}
-use Rattle.qu_frames.proofs.VerdictForms.{either-exact, either-fits, of_part, refusal-exact, stamps-exact, verdict-exact}
+use Rattle.qu_frames.specs.Formats.{body_code, is_body_code, act_parts, ask_parts, body_of_code, body_form, round_form, is_after_pair, spelled_pair, pair_after, culled_form, RequestFields, request_fields, request_made, request_form, request_frame, ReplyFields, reply_fields, reply_of, reply_form, reply_frame, FetchFields, fetch_fields, fetch_of, fetch_form, fetch_frame, FetchedFields, fetched_fields, fetched_of, fetched_form, fetched_frame, frame_kind, is_version, is_frame_kind, frame_body, kind_form, frame_form, mend_target, target_form}
+use Rattle.qu_verdicts.specs.Formats.{refusal_form, stamps_form, verdict_form}
+use Rattle.qu_verdicts.proofs.VerdictForms.{either-exact, either-fits, of_part, refusal-exact, stamps-exact, verdict-exact}
 
 -- ---- bodies
 
@@ -239,15 +240,6 @@ frame-exact =
 
 -- ---- each is a prefix code
 
-pub refusal-code : IsPrefixCode refusal_form
-refusal-code = prefix_code refusal_form refusal-exact
-
-pub stamps-code : IsPrefixCode stamps_form
-stamps-code = prefix_code stamps_form stamps-exact
-
-pub verdict-code : IsPrefixCode verdict_form
-verdict-code = prefix_code verdict_form verdict-exact
-
 pub body-code : (objects : List ObjectId) → IsPrefixCode (body_form objects)
 body-code objects = prefix_code (body_form objects) (body-exact objects)
 
@@ -270,9 +262,6 @@ pub frame-code : IsPrefixCode frame_form
 frame-code = prefix_code frame_form frame-exact
 
 pub ruleset code_laws = (
-  refusal-code,
-  stamps-code,
-  verdict-code,
   body-code,
   culled-code,
   request-code,

@@ -1,4 +1,3 @@
-pub mod VerdictForms
 pub mod Forms
 pub mod Decoded
 pub mod Pieces

@@ -14,8 +14,9 @@ use Rattle.qu_history.specs.Formats.{sets_form, shown_form}
 use Rattle.qu_frames.specs.declared.frame.Body.{Body}
 use Rattle.qu_frames.specs.declared.frame.Frame.{Frame}
 use Rattle.qu_frames.specs.declared.frame.Frame.TheVariants.{Request, Reply, Fetch, Fetched}
-use Rattle.qu_frames.specs.declared.verdict.Verdict.{Verdict}
-use Rattle.qu_frames.specs.Formats.{objects_in_sets, body_form, verdict_form, culled_form, request_frame, reply_frame, fetch_frame, fetched_frame, kind_form, frame_form}
+use Rattle.qu_verdicts.specs.declared.verdict.Verdict.{Verdict}
+use Rattle.qu_frames.specs.Formats.{objects_in_sets, body_form, culled_form, request_frame, reply_frame, fetch_frame, fetched_frame, kind_form, frame_form}
+use Rattle.qu_verdicts.specs.Formats.{verdict_form}
 use Rattle.qu_frames.specs.Signing.{mac_of}
 
 pub three_pieces : (a b c start one two end : List ℕ) → one ≡ start ++ a → two ≡ one ++ b → end ≡ two ++ c

@@ -18,7 +18,8 @@ use Rattle.qu_history.specs.Formats.{sets_form, shown_form}
 use Rattle.qu_frames.specs.declared.limits.TheConstants.{TEXT_LIMIT}
 use Rattle.qu_frames.specs.declared.frame.Frame.{Frame}
 use Rattle.qu_frames.specs.declared.frame.Frame.TheVariants.{Request, Reply, Fetch, Fetched}
-use Rattle.qu_frames.specs.Formats.{objects_in_sets, body_form, verdict_form, culled_form, request_frame, reply_frame, fetch_frame, fetched_frame, kind_form, frame_form}
+use Rattle.qu_frames.specs.Formats.{objects_in_sets, body_form, culled_form, request_frame, reply_frame, fetch_frame, fetched_frame, kind_form, frame_form}
+use Rattle.qu_verdicts.specs.Formats.{verdict_form}
 use Rattle.qu_frames.specs.Decoding.{decoded}
 use Rattle.qu_frames.specs.Signing.{sender, mac_of, with_mac, before_mac, text_digest, signature, signed, is_signed, if_signed, brought}
 use Rattle.qu_frames.proofs.Decoded.{spelled_is_decoded}

@@ -1,6 +1,4 @@
 pub mod Body
-pub mod Verdict
-pub mod RefusalNumber
 pub mod Formats
 pub mod Decoding
 pub mod Blank

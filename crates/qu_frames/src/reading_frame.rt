@@ -3,12 +3,12 @@ ghost use Rattle.std.specs.Prelude.{◌≡◌, None, IfOk};
 ghost use Rattle.qu_base.specs.Reading.{Reads, Gives};
 ghost use Rattle.qu_frames.specs.Formats.{objects_in_sets, target_form, body_form, is_after_pair, pair_after, some_culled, culled_form, request_frame, reply_frame, fetch_frame, fetched_frame, kind_form, frame_form};
 
-use super::reading_verdict::verdict_at;
 use super::{Body, CULLED_LIMIT, Frame, LAST_ROUND};
 use qu_base::{BadText, Cursor, List, NoMemory, ObjectId, ReadFail, ReplicaId, Why};
 use qu_history::{SetOf, read_sets, read_shown};
 use qu_objects::{read_act, read_query, read_state};
 use qu_stamp::read_plain_stamp;
+use qu_verdicts::verdict_at;
 use std::alloc::Global;
 
 /// The next frame: its version, its kind, and the fields of this kind.

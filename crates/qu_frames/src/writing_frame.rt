@@ -8,12 +8,12 @@ ghost use Rattle.qu_frames.specs.declared.frame.Frame.TheVariants as Frames;
 ghost use Rattle.qu_frames.specs.Formats.{body_form, spelled_pair, culled_form, kind_form, frame_form};
 ghost use Rattle.qu_frames.specs.Signing.{mac_of};
 
-use super::writing_verdict::append_verdict;
 use super::{Body, Frame, Verdict};
 use qu_base::{ClientId, List, NoMemory, ObjectId, Outbytes, ReplicaId};
 use qu_history::{Sealed, Sets, write_sets, write_shown};
 use qu_objects::{write_act, write_query, write_state};
 use qu_stamp::{Stamp, write_stamp};
+use qu_verdicts::append_verdict;
 use std::alloc::Global;
 
 /// Room for the bytes of most frames.

@@ -30,11 +30,12 @@ use Rattle.qu_objects.specs.Formats.{is_item_code, item_code, item_number, item_
 use Rattle.qu_objects.specs.Formats as objects
 use Rattle.qu_frames.specs.declared.limits.TheConstants.{TEXT_LIMIT, CULLED_LIMIT}
 use Rattle.qu_frames.specs.declared.frame.Frame.TheVariants.{Reply}
-use Rattle.qu_frames.specs.declared.refusal_number.TheConstants.{NOT_CURRENT, NOT_METHOD, SPENT}
-use Rattle.qu_frames.specs.declared.verdict.Verdict.{Verdict}
-use Rattle.qu_frames.specs.declared.verdict.Verdict.TheVariants.{Already, Refused}
-use Rattle.qu_frames.specs.Formats.{latest_told, class_refused, number_told, plain_refusal, plain_object, refusal_body, refusal_form, stamp_from, spelled_stamp, after_told, stamps_form, answered_form, verdict_body, verdict_form, spelled_pair, pair_after, culled_form, round_form, ReplyFields, reply_form, reply_frame, kind_form, frame_form}
-use Rattle.qu_frames.specs.Formats as frames
+use Rattle.qu_verdicts.specs.declared.refusal_number.TheConstants.{NOT_CURRENT, NOT_METHOD, SPENT}
+use Rattle.qu_verdicts.specs.declared.verdict.Verdict.{Verdict}
+use Rattle.qu_verdicts.specs.declared.verdict.Verdict.TheVariants.{Already, Refused}
+use Rattle.qu_frames.specs.Formats.{spelled_pair, pair_after, culled_form, round_form, ReplyFields, reply_form, reply_frame, kind_form, frame_form}
+use Rattle.qu_verdicts.specs.Formats.{latest_told, class_refused, number_told, plain_refusal, plain_object, refusal_body, refusal_form, stamp_from, spelled_stamp, after_told, stamps_form, answered_form, verdict_body, verdict_form}
+use Rattle.qu_verdicts.specs.Formats as verdicts
 
 -- each spelling has at most so many bytes
 record IsShort {V : Type 0} (most : ℕ) (form : Format V) : Type 0 where
@@ -340,14 +341,14 @@ verdict-short =
     let answered : IsShort 270663 answered_form =
     both-short 313 270350 stamps_form _ stamps-short (λ stamps. answer-short) in
     tagged-short 270663 _ _ verdict_body (λ code.
-    either-short 270663 (code == 1) _ _ (made-short 270663 _ frames.done answered_form answered)
-    (either-short 270663 (code == 2) _ _ (made-short 270663 _ frames.told answered_form answered)
+    either-short 270663 (code == 1) _ _ (made-short 270663 _ verdicts.done answered_form answered)
+    (either-short 270663 (code == 2) _ _ (made-short 270663 _ verdicts.told answered_form answered)
     (either-short 270663 (code == 3) _ _
-    (made-short 270663 Already frames.already answer_form
+    (made-short 270663 Already verdicts.already answer_form
     (shorter 270350 270663 answer_form (omega arith) answer-short))
     (either-short 270663 (code == 4) _ _
-    (made-short 270663 _ frames.mended _ (shorter 78 270663 _ (omega arith) told-short))
-    (made-short 270663 Refused frames.refusal refusal_form
+    (made-short 270663 _ verdicts.mended _ (shorter 78 270663 _ (omega arith) told-short))
+    (made-short 270663 Refused verdicts.refusal refusal_form
     (shorter 79 270663 refusal_form (omega arith) refusal-short))))))
 
 -- ---- replies

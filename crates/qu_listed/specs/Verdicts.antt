@@ -6,12 +6,12 @@ use Rattle.qu_base.specs.declared.party.ObjectId.{ObjectId}
 use Rattle.qu_base.specs.declared.party.Party.TheVariants.{Client}
 use Rattle.qu_stamp.specs.declared.stamp.Stamp.{Stamp}
 use Rattle.qu_objects.specs.declared.answer.Answer.{Answer}
-use Rattle.qu_frames.specs.declared.verdict.ClassCode.{ClassCode}
-use Rattle.qu_frames.specs.declared.verdict.ClassCode.TheVariants as class
-use Rattle.qu_frames.specs.declared.verdict.Refusal.{Refusal}
-use Rattle.qu_frames.specs.declared.verdict.Refusal.TheVariants.{HistoryFull, Thin, Needs, Stale, NotCurrent, NotMethod, Spent, TimeSpent, UnknownObject, Sound}
-use Rattle.qu_frames.specs.declared.verdict.Verdict.{Verdict}
-use Rattle.qu_frames.specs.declared.verdict.Verdict.TheVariants.{Done, Told, Already, Mended, Refused}
+use Rattle.qu_verdicts.specs.declared.verdict.ClassCode.{ClassCode}
+use Rattle.qu_verdicts.specs.declared.verdict.ClassCode.TheVariants as class
+use Rattle.qu_verdicts.specs.declared.verdict.Refusal.{Refusal}
+use Rattle.qu_verdicts.specs.declared.verdict.Refusal.TheVariants.{HistoryFull, Thin, Needs, Stale, NotCurrent, NotMethod, Spent, TimeSpent, UnknownObject, Sound}
+use Rattle.qu_verdicts.specs.declared.verdict.Verdict.{Verdict}
+use Rattle.qu_verdicts.specs.declared.verdict.Verdict.TheVariants.{Done, Told, Already, Mended, Refused}
 use Rattle.qu_print.specs.Words.{answer_text}
 use Rattle.qu_listed.specs.Names.{party_text, object_text}
 

@@ -13,8 +13,8 @@ use Rattle.qu_history.specs.declared.limits.TheConstants.{HISTORY_LIMIT}
 use Rattle.qu_history.specs.History.{latest}
 use Rattle.qu_objects.specs.declared.state.ObjState.{ObjState}
 use Rattle.qu_kept.specs.Performing.{copied_state}
-use Rattle.qu_frames.specs.declared.verdict.Refusal.{Refusal}
-use Rattle.qu_frames.specs.declared.verdict.Refusal.TheVariants.{Needs, Stale, Sound, NotCurrent, TimeSpent, HistoryFull}
+use Rattle.qu_verdicts.specs.declared.verdict.Refusal.{Refusal}
+use Rattle.qu_verdicts.specs.declared.verdict.Refusal.TheVariants.{Needs, Stale, Sound, NotCurrent, TimeSpent, HistoryFull}
 use Rattle.qu_mends.specs.declared.accepted.Accepted.{Accepted}
 use Rattle.qu_mends.specs.declared.remedy.Remedy.{Remedy}
 use Rattle.qu_mends.specs.declared.remedy.Remedy.TheVariants.{Nothing, Shown, Fresh, Unshown, Unplanned, Outdated}

@@ -12,8 +12,8 @@ use Rattle.qu_history.specs.declared.sets.SetOf.{SetOf}
 use Rattle.qu_history.specs.Sets.{entries_of, latest_of}
 use Rattle.qu_objects.specs.declared.state.ObjState.{ObjState}
 use Rattle.qu_kept.specs.Performing.{copied_state}
-use Rattle.qu_frames.specs.declared.verdict.Refusal.{Refusal}
-use Rattle.qu_frames.specs.declared.verdict.Refusal.TheVariants.{HistoryFull, Thin, Needs, Stale, NotCurrent, NotMethod, Spent, TimeSpent, UnknownObject, Sound}
+use Rattle.qu_verdicts.specs.declared.verdict.Refusal.{Refusal}
+use Rattle.qu_verdicts.specs.declared.verdict.Refusal.TheVariants.{HistoryFull, Thin, Needs, Stale, NotCurrent, NotMethod, Spent, TimeSpent, UnknownObject, Sound}
 use Rattle.qu_mends.specs.declared.remedy.Remedy.{Remedy}
 use Rattle.qu_mends.specs.declared.remedy.Remedy.TheVariants.{Nothing, Shown, Fresh, Unshown, Unplanned, Outdated}
 use Rattle.qu_mends.specs.declared.mend.Mend.{Mend}

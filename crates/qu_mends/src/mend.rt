@@ -12,7 +12,7 @@ ghost use Rattle.qu_mends.specs.Mending.{is_held_part, is_overtaken, is_late, is
 use super::course::Course;
 use super::{Accepted, Mending, Part, Remedy};
 use qu_base::{Bounds, ClientId, Digest, List, NoMemory, ObjectId};
-use qu_frames::Refusal;
+use qu_verdicts::Refusal;
 use qu_history::Sets;
 use qu_kept::copied;
 use qu_objects::ObjState;

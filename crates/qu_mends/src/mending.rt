@@ -1,6 +1,6 @@
 use super::Accepted;
 use qu_base::{List, ObjectId};
-use qu_frames::Refusal;
+use qu_verdicts::Refusal;
 use qu_stamp::Stamp;
 
 /// What a replica makes of a request to mend an object.

@@ -26,8 +26,8 @@ use Rattle.qu_objects.specs.Parts.{are_parts}
 use Rattle.qu_kept.specs.declared.repeats.Standing.TheVariants.{Fresh}
 use Rattle.qu_kept.specs.Standing.{standing_of}
 use Rattle.qu_kept.proofs.StandingLaws.{fresh_where}
-use Rattle.qu_frames.specs.declared.verdict.Refusal.{Refusal}
-use Rattle.qu_frames.specs.declared.verdict.Refusal.TheVariants as refusal
+use Rattle.qu_verdicts.specs.declared.verdict.Refusal.{Refusal}
+use Rattle.qu_verdicts.specs.declared.verdict.Refusal.TheVariants as refusal
 use Rattle.qu_mends.specs.declared.accepted.Accepted.{Accepted}
 use Rattle.qu_rows.specs.declared.decision.Decision.{Decision}
 use Rattle.qu_rows.specs.declared.decision.Decision.TheVariants.{Answers, Waits}
@@ -36,7 +36,7 @@ use Rattle.qu_rows.specs.Rows.{Asked, asked_of, asked_at, refuse, shown_of, meth
 use Rattle.qu_fitting.proofs.CarriedEach.{AreBases, AreBefores, accepted_each, fresh_upon, fresh_candidates, versions_made, versions_each, done_each}
 use Rattle.qu_mends.specs.Table.{first_given}
 use Rattle.qu_frames.specs.declared.frame.Body.TheVariants as body
-use Rattle.qu_frames.specs.declared.verdict.Verdict.TheVariants as verdict
+use Rattle.qu_verdicts.specs.declared.verdict.Verdict.TheVariants as verdict
 use Rattle.qu_objects.specs.declared.kind.Value.{Value}
 use Rattle.qu_objects.specs.Performing.{performed_answer}
 use Rattle.qu_kept.specs.Rows.{row_of}

@@ -21,8 +21,8 @@ use Rattle.qu_objects.specs.declared.op.Outcome.TheVariants as outcome
 use Rattle.qu_frames.specs.declared.frame.Body.TheVariants as body
 use Rattle.qu_frames.specs.declared.frame.Frame.TheVariants as frame
 use Rattle.qu_frames.specs.declared.frame.Letter.{Letter}
-use Rattle.qu_frames.specs.declared.verdict.Verdict.{Verdict}
-use Rattle.qu_frames.specs.declared.verdict.Verdict.TheVariants as verdict
+use Rattle.qu_verdicts.specs.declared.verdict.Verdict.{Verdict}
+use Rattle.qu_verdicts.specs.declared.verdict.Verdict.TheVariants as verdict
 use Rattle.qu_client.specs.declared.state.ClientState.{ClientState}
 use Rattle.qu_counting.specs.declared.work.Counted.{Counted}
 use Rattle.qu_counting.specs.declared.work.Work.{Work}

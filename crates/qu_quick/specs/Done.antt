@@ -23,8 +23,8 @@ use Rattle.qu_versions.specs.Versions.{version_at}
 use Rattle.qu_frames.specs.declared.frame.Body.TheVariants as body
 use Rattle.qu_frames.specs.declared.frame.Frame.TheVariants as frame
 use Rattle.qu_frames.specs.declared.frame.Letter.{Letter}
-use Rattle.qu_frames.specs.declared.verdict.Verdict.{Verdict}
-use Rattle.qu_frames.specs.declared.verdict.Verdict.TheVariants as verdict
+use Rattle.qu_verdicts.specs.declared.verdict.Verdict.{Verdict}
+use Rattle.qu_verdicts.specs.declared.verdict.Verdict.TheVariants as verdict
 use Rattle.qu_frames.specs.Signing.{brought}
 use Rattle.qu_rows.specs.Rows.{asked_of, fresh_stamp, objects_of}
 use Rattle.qu_rows.specs.State.{ReplicaState, own_candidates, own_latest}

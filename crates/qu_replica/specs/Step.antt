@@ -22,7 +22,7 @@ use Rattle.qu_versions.specs.Versions.{version_at, with_version}
 use Rattle.qu_frames.specs.declared.frame.Frame.{Frame}
 use Rattle.qu_frames.specs.declared.frame.Frame.TheVariants as frame
 use Rattle.qu_frames.specs.declared.frame.Letter.{Letter}
-use Rattle.qu_frames.specs.declared.verdict.Verdict.{Verdict}
+use Rattle.qu_verdicts.specs.declared.verdict.Verdict.{Verdict}
 use Rattle.qu_frames.specs.Blank.{blank_mac}
 use Rattle.qu_frames.specs.Signing.{signed, brought}
 use Rattle.qu_rows.specs.declared.decision.Decision.{Decision}

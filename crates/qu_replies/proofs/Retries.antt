@@ -22,7 +22,7 @@ use Rattle.qu_kept.specs.declared.repeats.Standing.TheVariants.{Fresh, Already, 
 use Rattle.qu_kept.specs.Standing.{standing_of}
 use Rattle.qu_kept.proofs.EachObject.{objects_named}
 use Rattle.qu_kept.proofs.KeyedLaws.{all_both}
-use Rattle.qu_frames.specs.declared.verdict.Verdict.TheVariants as verdict
+use Rattle.qu_verdicts.specs.declared.verdict.Verdict.TheVariants as verdict
 use Rattle.qu_versions.specs.declared.stored.Stored.{Stored}
 use Rattle.qu_versions.specs.Versions.{version_at}
 use Rattle.qu_mends.specs.declared.accepted.Accepted.{Accepted}

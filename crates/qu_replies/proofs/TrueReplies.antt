@@ -27,8 +27,8 @@ use Rattle.qu_kept.specs.Standing.{standing_of}
 use Rattle.qu_kept.proofs.EachObject.{objects_named, distinct_parts, values_are-before, values_before}
 use Rattle.qu_kept.proofs.KeyedLaws.{own_item, all_both}
 use Rattle.qu_frames.specs.declared.frame.Body.TheVariants as body
-use Rattle.qu_frames.specs.declared.verdict.Verdict.{Verdict}
-use Rattle.qu_frames.specs.declared.verdict.Verdict.TheVariants as verdict
+use Rattle.qu_verdicts.specs.declared.verdict.Verdict.{Verdict}
+use Rattle.qu_verdicts.specs.declared.verdict.Verdict.TheVariants as verdict
 use Rattle.qu_versions.specs.declared.stored.Stored.{Stored}
 use Rattle.qu_versions.specs.Versions.{version_at}
 use Rattle.qu_versions.proofs.Lookup.{version_at-append, append_grows}

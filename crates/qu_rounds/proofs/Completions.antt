@@ -20,8 +20,8 @@ use Rattle.qu_frames.specs.Body.{body_of}
 use Rattle.qu_frames.specs.declared.frame.Frame.{Frame}
 use Rattle.qu_frames.specs.declared.frame.Frame.TheVariants as frame
 use Rattle.qu_frames.specs.declared.frame.Letter.{Letter}
-use Rattle.qu_frames.specs.declared.verdict.Verdict.{Verdict}
-use Rattle.qu_frames.specs.Verdict.{same_verdict}
+use Rattle.qu_verdicts.specs.declared.verdict.Verdict.{Verdict}
+use Rattle.qu_verdicts.specs.Verdict.{same_verdict}
 use Rattle.qu_client.specs.declared.state.ClientState.{ClientState}
 use Rattle.qu_counting.specs.declared.work.Counted.{Counted}
 use Rattle.qu_counting.specs.declared.work.Work.{Work}

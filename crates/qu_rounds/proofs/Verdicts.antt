@@ -12,11 +12,11 @@ use Rattle.qu_stamp.proofs.Order.{same_stamp-self, equal_by_same_stamp}
 use Rattle.qu_objects.specs.declared.act.Method.{Method}
 use Rattle.qu_objects.specs.declared.answer.Answer.{Answer}
 use Rattle.qu_frames.specs.declared.frame.Body.TheVariants as body
-use Rattle.qu_frames.specs.declared.verdict.Verdict.{Verdict}
-use Rattle.qu_frames.specs.declared.verdict.Verdict.TheVariants as verdict
-use Rattle.qu_frames.specs.Verdict.{same_verdict, same_object, same_stamps}
+use Rattle.qu_verdicts.specs.declared.verdict.Verdict.{Verdict}
+use Rattle.qu_verdicts.specs.declared.verdict.Verdict.TheVariants as verdict
+use Rattle.qu_verdicts.specs.Verdict.{same_verdict, same_object, same_stamps}
 use Rattle.qu_objects.specs.Alike.{same_answer}
-use Rattle.qu_frames.specs.declared.verdict.Verdict.TheVariants.{Done, Told, Already, Mended, Refused}
+use Rattle.qu_verdicts.specs.declared.verdict.Verdict.TheVariants.{Done, Told, Already, Mended, Refused}
 use Rattle.qu_counting.specs.Verdicts.{fitting}
 use Rattle.qu_machine.proofs.Equalities.{decides_answer, object_is}
 

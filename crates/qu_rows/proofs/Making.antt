@@ -7,7 +7,7 @@ use Rattle.qu_objects.specs.declared.answer.Answer.{Answer}
 use Rattle.qu_objects.specs.declared.state.ObjState.{ObjState}
 use Rattle.qu_objects.specs.Performing.{performed_answer}
 use Rattle.qu_kept.specs.Performing.{values_of, performed_states}
-use Rattle.qu_frames.specs.declared.verdict.Verdict.TheVariants.{Done}
+use Rattle.qu_verdicts.specs.declared.verdict.Verdict.TheVariants.{Done}
 use Rattle.qu_mends.specs.declared.accepted.Accepted.{Accepted}
 use Rattle.qu_rows.specs.declared.decision.Decision.{Decision}
 use Rattle.qu_rows.specs.declared.decision.Decision.TheVariants.{Answers}

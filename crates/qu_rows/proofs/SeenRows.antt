@@ -19,10 +19,10 @@ use Rattle.qu_objects.specs.Performing.{performed_answer, told_answer}
 use Rattle.qu_objects.proofs.PartLaws.{parts_are}
 use Rattle.qu_kept.specs.Performing.{values_of, performed_states}
 use Rattle.qu_versions.specs.Versions.{version_at}
-use Rattle.qu_frames.specs.declared.verdict.ClassCode.TheVariants.{Barrier}
-use Rattle.qu_frames.specs.declared.verdict.Refusal.{Refusal}
-use Rattle.qu_frames.specs.declared.verdict.Refusal.TheVariants.{NotCurrent, NotMethod, TimeSpent, HistoryFull}
-use Rattle.qu_frames.specs.declared.verdict.Verdict.TheVariants.{Done, Told}
+use Rattle.qu_verdicts.specs.declared.verdict.ClassCode.TheVariants.{Barrier}
+use Rattle.qu_verdicts.specs.declared.verdict.Refusal.{Refusal}
+use Rattle.qu_verdicts.specs.declared.verdict.Refusal.TheVariants.{NotCurrent, NotMethod, TimeSpent, HistoryFull}
+use Rattle.qu_verdicts.specs.declared.verdict.Verdict.TheVariants.{Done, Told}
 use Rattle.qu_mends.specs.declared.seen.Seen.{Seen}
 use Rattle.qu_mends.specs.declared.accepted.Accepted.{Accepted}
 use Rattle.qu_rows.specs.declared.decision.Decision.{Decision}

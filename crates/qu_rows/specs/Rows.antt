@@ -31,11 +31,11 @@ use Rattle.qu_kept.specs.Performing.{values_of, performed_states}
 use Rattle.qu_kept.specs.Standing.{standing_of}
 use Rattle.qu_frames.specs.declared.frame.Body.{Body}
 use Rattle.qu_frames.specs.declared.frame.Body.TheVariants as body
-use Rattle.qu_frames.specs.declared.verdict.ClassCode.{ClassCode}
-use Rattle.qu_frames.specs.declared.verdict.ClassCode.TheVariants.{InlineMethod, Copy, InlineBarrier, Barrier, Needs}
-use Rattle.qu_frames.specs.declared.verdict.Refusal.{Refusal}
-use Rattle.qu_frames.specs.declared.verdict.Refusal.TheVariants as refusal
-use Rattle.qu_frames.specs.declared.verdict.Verdict.TheVariants as verdict
+use Rattle.qu_verdicts.specs.declared.verdict.ClassCode.{ClassCode}
+use Rattle.qu_verdicts.specs.declared.verdict.ClassCode.TheVariants.{InlineMethod, Copy, InlineBarrier, Barrier, Needs}
+use Rattle.qu_verdicts.specs.declared.verdict.Refusal.{Refusal}
+use Rattle.qu_verdicts.specs.declared.verdict.Refusal.TheVariants as refusal
+use Rattle.qu_verdicts.specs.declared.verdict.Verdict.TheVariants as verdict
 use Rattle.qu_mends.specs.declared.remedy.Remedy.{Remedy}
 use Rattle.qu_mends.specs.declared.mend.Mend.{Mend}
 use Rattle.qu_mends.specs.declared.mending.Mending.{Mending}

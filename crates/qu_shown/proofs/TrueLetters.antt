@@ -16,7 +16,7 @@ use Rattle.qu_objects.specs.declared.op.Op.{Op}
 use Rattle.qu_frames.specs.declared.frame.Frame.{Frame}
 use Rattle.qu_frames.specs.declared.frame.Frame.TheVariants as frame
 use Rattle.qu_frames.specs.declared.frame.Letter.{Letter}
-use Rattle.qu_frames.specs.declared.verdict.Verdict.{Verdict}
+use Rattle.qu_verdicts.specs.declared.verdict.Verdict.{Verdict}
 use Rattle.qu_history.specs.Sealing.{sealed_by}
 use Rattle.qu_frames.specs.Formats.{frame_form}
 use Rattle.qu_frames.specs.Decoding.{decoded}

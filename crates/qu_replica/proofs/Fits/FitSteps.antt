@@ -18,9 +18,10 @@ use Rattle.qu_history.specs.Culling.{history_digest, culled, left_out}
 use Rattle.qu_history.specs.Sealing.{sealed_by}
 use Rattle.qu_frames.specs.declared.frame.Frame.{Frame}
 use Rattle.qu_frames.specs.declared.frame.Frame.TheVariants as frame
-use Rattle.qu_frames.specs.declared.verdict.Verdict.{Verdict}
+use Rattle.qu_verdicts.specs.declared.verdict.Verdict.{Verdict}
 use Rattle.qu_frames.specs.Blank.{blank_mac}
-use Rattle.qu_frames.specs.Formats.{objects_in_sets, culled_form, verdict_form, reply_frame, kind_form, frame_form, fetch_frame, fetched_frame}
+use Rattle.qu_frames.specs.Formats.{objects_in_sets, culled_form, reply_frame, kind_form, frame_form, fetch_frame, fetched_frame}
+use Rattle.qu_verdicts.specs.Formats.{verdict_form}
 use Rattle.qu_frames.specs.Signing.{with_mac, signature, brought}
 use Rattle.qu_frames.proofs.Signed.{signed_is_spelled, brought_is_decoded}
 use Rattle.qu_frames.proofs.Decoded.{decoded_is_spelled}

@@ -15,8 +15,8 @@ use Rattle.qu_objects.specs.Performing.{performed_answer}
 use Rattle.qu_kept.specs.Performing.{values_of, performed_states}
 use Rattle.qu_frames.specs.declared.frame.Body.{Body}
 use Rattle.qu_frames.specs.declared.frame.Body.TheVariants as body
-use Rattle.qu_frames.specs.declared.verdict.Verdict.{Verdict}
-use Rattle.qu_frames.specs.declared.verdict.Verdict.TheVariants.{Done}
+use Rattle.qu_verdicts.specs.declared.verdict.Verdict.{Verdict}
+use Rattle.qu_verdicts.specs.declared.verdict.Verdict.TheVariants.{Done}
 use Rattle.qu_versions.specs.declared.stored.Stored.{Stored}
 use Rattle.qu_versions.specs.Versions.{has_version}
 use Rattle.qu_mends.specs.declared.accepted.Accepted.{Accepted}

@@ -3,7 +3,7 @@ ghost use Rattle.std.specs.Option.{option_copied};
 ghost use Rattle.qu_base.specs.Bounds.{quorum};
 ghost use Rattle.qu_class.specs.Class.{is_copy, class_in};
 ghost use Rattle.qu_plan.specs.Linking.{linking};
-ghost use Rattle.qu_frames.specs.declared.verdict.Verdict.TheVariants.{Mended};
+ghost use Rattle.qu_verdicts.specs.declared.verdict.Verdict.TheVariants.{Mended};
 ghost use Rattle.qu_mends.specs.Remedy.{course_of};
 ghost use Rattle.qu_rows.specs.declared.decision.Decision.TheVariants.{Answers};
 ghost use Rattle.qu_rows.specs.Rows.{shown_of, row_few, linking_of, evidence_for, waits_for, row_evidence, facts_of, wanted_version, part_of, mending_on, decision_by, decide_repair, row_unknown, row_thin};

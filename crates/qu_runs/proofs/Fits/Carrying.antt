@@ -20,7 +20,7 @@ use Rattle.qu_frames.specs.declared.frame.Body.{Body}
 use Rattle.qu_frames.specs.declared.frame.Frame.{Frame}
 use Rattle.qu_frames.specs.declared.frame.Frame.TheVariants as frame
 use Rattle.qu_frames.specs.declared.frame.Letter.{Letter}
-use Rattle.qu_frames.specs.declared.verdict.Verdict.{Verdict}
+use Rattle.qu_verdicts.specs.declared.verdict.Verdict.{Verdict}
 use Rattle.qu_frames.specs.Formats.{is_version, is_frame_kind, frame_kind, frame_body, request_form, request_fields, request_made, request_frame, reply_form, reply_fields, reply_of, reply_frame, kind_form, frame_form, fetch_fields, fetch_of, fetch_form, fetch_frame, fetched_fields, fetched_of, fetched_form, fetched_frame}
 use Rattle.qu_frames.specs.Decoding.{decoded}
 use Rattle.qu_frames.specs.Signing.{mac_of, with_mac, signature, signed}

@@ -15,7 +15,7 @@ use Rattle.qu_history.specs.Formats.{history_form, sealed_form, sealed_from, obj
 use Rattle.qu_objects.specs.declared.op.Op.{Op}
 use Rattle.qu_frames.specs.declared.frame.Frame.{Frame}
 use Rattle.qu_frames.specs.declared.frame.Frame.TheVariants as frame
-use Rattle.qu_frames.specs.declared.verdict.Verdict.{Verdict}
+use Rattle.qu_verdicts.specs.declared.verdict.Verdict.{Verdict}
 use Rattle.qu_frames.specs.Formats.{reply_frame, kind_form, frame_form}
 use Rattle.qu_frames.specs.Decoding.{decoded}
 use Rattle.qu_frames.specs.declared.frame.Body.{Body}

@@ -34,7 +34,7 @@ use Rattle.qu_safety.proofs.Completed.QueryRounds.{ToldRound, told_round}
 use Rattle.qu_values.proofs.Requests.ClientFacts.{ClientFacts}
 use Rattle.qu_safety.proofs.Completed.Along.{objects_in, all_beside}
 use Rattle.qu_values.proofs.Updating.UpdateFacts.{UpdateFacts}
-use Rattle.qu_frames.specs.declared.verdict.Verdict.{Verdict}
+use Rattle.qu_verdicts.specs.declared.verdict.Verdict.{Verdict}
 
 module _ (trace : Trace) (is_run : IsRun trace) (have : ArePlain trace) (clients : ClientFacts trace)
     (laws : Laws (setting trace)) (joint : Joint (setting trace)) (facts : UpdateFacts trace) where

@@ -22,9 +22,9 @@ use Rattle.qu_objects.specs.declared.answer.Answer.{Answer}
 use Rattle.qu_objects.specs.declared.op.Op.{Op}
 use Rattle.qu_objects.specs.declared.op.Op.TheVariants as op
 use Rattle.qu_objects.specs.declared.op.Outcome.TheVariants as outcome
-use Rattle.qu_frames.specs.declared.verdict.Verdict.{Verdict}
-use Rattle.qu_frames.specs.declared.verdict.Verdict.TheVariants as verdict
-use Rattle.qu_frames.specs.Verdict.{same_verdict}
+use Rattle.qu_verdicts.specs.declared.verdict.Verdict.{Verdict}
+use Rattle.qu_verdicts.specs.declared.verdict.Verdict.TheVariants as verdict
+use Rattle.qu_verdicts.specs.Verdict.{same_verdict}
 use Rattle.qu_frames.specs.Body.{body_of}
 use Rattle.qu_counting.specs.Verdicts.{fitting}
 use Rattle.qu_machine.specs.declared.record.OpRecord.{OpRecord}

@@ -19,8 +19,8 @@ use Rattle.qu_objects.specs.declared.state.KeptRow.{KeptRow}
 use Rattle.qu_objects.specs.declared.state.ObjState.{ObjState}
 use Rattle.qu_objects.specs.Digesting.{act_digest}
 use Rattle.qu_frames.specs.declared.frame.Body.TheVariants as body
-use Rattle.qu_frames.specs.declared.verdict.Verdict.{Verdict}
-use Rattle.qu_frames.specs.declared.verdict.Verdict.TheVariants as verdict
+use Rattle.qu_verdicts.specs.declared.verdict.Verdict.{Verdict}
+use Rattle.qu_verdicts.specs.declared.verdict.Verdict.TheVariants as verdict
 use Rattle.qu_trace.specs.declared.trace.Entry.{Entry}
 use Rattle.qu_trace.specs.declared.trace.Trace.{Trace}
 use Rattle.qu_world.specs.Run.{IsRun}

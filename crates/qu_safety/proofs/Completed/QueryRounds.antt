@@ -14,7 +14,7 @@ use Rattle.qu_objects.specs.declared.query.Ask.{Ask}
 use Rattle.qu_frames.specs.declared.frame.Body.{Body}
 use Rattle.qu_frames.specs.declared.frame.Body.TheVariants as body
 use Rattle.qu_frames.specs.declared.frame.Letter.{Letter}
-use Rattle.qu_frames.specs.declared.verdict.Verdict.TheVariants as verdict
+use Rattle.qu_verdicts.specs.declared.verdict.Verdict.TheVariants as verdict
 use Rattle.qu_frames.specs.Body.{body_of}
 use Rattle.qu_counting.specs.Verdicts.{fitting}
 use Rattle.qu_machine.specs.declared.record.OpRecord.{OpRecord}

@@ -1,5 +1,5 @@
 ghost use Rattle.std.specs.Prelude.{◌≡◌};
-ghost use Rattle.qu_frames.specs.RefusalNumber.{refusal_number};
+ghost use Rattle.qu_verdicts.specs.RefusalNumber.{refusal_number};
 
 use super::Refusal;
 

@@ -1,8 +1,8 @@
 //! Verdicts from bytes, by the formats of `specs/Formats.antt`.
 ghost use Rattle.std.specs.Prelude.{◌≡◌, ◌<◌, IfOk};
 ghost use Rattle.qu_base.specs.Reading.{Reads, Gives};
-ghost use Rattle.qu_frames.specs.RefusalNumber.{is_refusal_number};
-ghost use Rattle.qu_frames.specs.Formats.{class_form, plain_refusal, refusal_body, refusal_form, stamp_from, some_stamps, stamps_form, verdict_form};
+ghost use Rattle.qu_verdicts.specs.RefusalNumber.{is_refusal_number};
+ghost use Rattle.qu_verdicts.specs.Formats.{class_form, plain_refusal, refusal_body, refusal_form, stamp_from, some_stamps, stamps_form, verdict_form};
 
 use super::refusal_number::{
     HISTORY_FULL, NEEDS, NOT_CURRENT, NOT_METHOD, SOUND, SPENT, STALE, THIN, TIME_SPENT,
@@ -16,7 +16,7 @@ use std::alloc::Global;
 
 /// The next verdict: its code, and what it tells.
 #[tactic(auto, unfolding(crate::specs::Formats::verdict_form))]
-pub(crate) fn verdict_at(alloc: Global, text: &mut Cursor) -> Result<Verdict, ReadFail>
+pub fn verdict_at(alloc: Global, text: &mut Cursor) -> Result<Verdict, ReadFail>
     ensures { Gives verdict_form result text.old text.new }
 {
     let start = text.ahead();

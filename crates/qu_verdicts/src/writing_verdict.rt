@@ -1,8 +1,8 @@
 //! Verdicts as bytes, by the formats of `specs/Formats.antt`.
 ghost use Rattle.std.specs.Prelude.{◌≡◌, ◌++◌, OnOk};
 ghost use Rattle.std.specs.List.{flat_map};
-ghost use Rattle.qu_frames.specs.Verdict.{number_of_class};
-ghost use Rattle.qu_frames.specs.Formats.{refusal_form, refused_object, spelled_stamp, stamps_form, verdict_form};
+ghost use Rattle.qu_verdicts.specs.Verdict.{number_of_class};
+ghost use Rattle.qu_verdicts.specs.Formats.{refusal_form, refused_object, spelled_stamp, stamps_form, verdict_form};
 
 use super::{ClassCode, Refusal, Verdict};
 use qu_base::{NoMemory, ObjectId, Outbytes};
@@ -11,7 +11,7 @@ use qu_stamp::{Stamp, write_stamp};
 
 /// Appends a verdict.
 #[tactic(auto, unfolding(crate::specs::Formats::verdict_form))]
-pub(crate) fn append_verdict(verdict: &Verdict, out: &mut Outbytes) -> Result<(), NoMemory>
+pub fn append_verdict(verdict: &Verdict, out: &mut Outbytes) -> Result<(), NoMemory>
     ensures { OnOk result (out.new ≡ out.old ++ verdict_form.spell verdict.now) }
 {
     match verdict {

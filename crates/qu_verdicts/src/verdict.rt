@@ -80,7 +80,7 @@ impl Drop for Verdict {
 }
 
 impl Verdict {
-    ghost use Rattle.qu_frames.specs.Verdict.{same_verdict};
+    ghost use Rattle.qu_verdicts.specs.Verdict.{same_verdict};
 
     /// Whether it is the same verdict, with the same stamps and the same answer.
     #[tactic(auto, unfolding(qu_stamp::specs::Stamp::same_stamp))]

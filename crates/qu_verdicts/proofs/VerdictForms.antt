@@ -5,7 +5,8 @@ use Rattle.std.proofs.lemmas.Bool.{cases_Bool, eqb-true}
 use Rattle.std.proofs.lemmas.Bool.Decides.{nat_tests}
 use Rattle.std.specs.Int.{w8}
 use Rattle.qu_base.specs.declared.party.ObjectId.{ObjectId}
-use Rattle.qu_base.specs.Format.{Format, number, both, FitsPart, made, either, object_form, IsExact}
+use Rattle.qu_base.specs.Format.{IsPrefixCode, Format, number, both, FitsPart, made, either, object_form, IsExact}
+use Rattle.qu_base.proofs.PrefixCodes.{prefix_code}
 use Rattle.qu_base.proofs.Formats.{some_is, both-exact, made-exact, fields-exact, counted-exact, tagged-exact, object-exact}
 use Rattle.qu_stamp.specs.declared.stamp.Stamp.{Stamp}
 use Rattle.qu_stamp.specs.Formats.{stamp_form, object_from}
@@ -16,16 +17,16 @@ use Rattle.qu_base.specs.Texts.{word_form}
 use Rattle.qu_objects.specs.Formats.{answer_form}
 use Rattle.qu_base.proofs.TextForms.{word-exact}
 use Rattle.qu_objects.proofs.Forms.{answer-exact, byte-exact}
-use Rattle.qu_frames.specs.declared.refusal_number.TheConstants.{HISTORY_FULL, THIN, NEEDS, STALE, NOT_CURRENT, NOT_METHOD, SPENT, TIME_SPENT, UNKNOWN_OBJECT, SOUND}
-use Rattle.qu_frames.specs.RefusalNumber.{refusal_number, is_refusal_number}
-use Rattle.qu_frames.specs.declared.verdict.ClassCode.{ClassCode}
-use Rattle.qu_frames.specs.declared.verdict.ClassCode.TheVariants as class
-use Rattle.qu_frames.specs.declared.verdict.Refusal.{Refusal}
-use Rattle.qu_frames.specs.declared.verdict.Refusal.TheVariants.{HistoryFull, Thin, Needs, Stale, NotCurrent, NotMethod, Spent, TimeSpent, UnknownObject, Sound}
-use Rattle.qu_frames.specs.declared.verdict.Verdict.{Verdict}
-use Rattle.qu_frames.specs.declared.verdict.Verdict.TheVariants.{Done, Told, Already, Mended, Refused}
-use Rattle.qu_frames.specs.Verdict.{number_of_class}
-use Rattle.qu_frames.specs.Formats.{class_numbered, class_form, refused_object, latest_told, class_refused, number_told, plain_refusal, plain_object, refusal_body, refusal_form, spelled_stamp, stamp_from, after_told, stamps_form, verdict_code, is_verdict_code, done, told, already, mended, refusal, answered_form, verdict_body, verdict_form}
+use Rattle.qu_verdicts.specs.declared.refusal_number.TheConstants.{HISTORY_FULL, THIN, NEEDS, STALE, NOT_CURRENT, NOT_METHOD, SPENT, TIME_SPENT, UNKNOWN_OBJECT, SOUND}
+use Rattle.qu_verdicts.specs.RefusalNumber.{refusal_number, is_refusal_number}
+use Rattle.qu_verdicts.specs.declared.verdict.ClassCode.{ClassCode}
+use Rattle.qu_verdicts.specs.declared.verdict.ClassCode.TheVariants as class
+use Rattle.qu_verdicts.specs.declared.verdict.Refusal.{Refusal}
+use Rattle.qu_verdicts.specs.declared.verdict.Refusal.TheVariants.{HistoryFull, Thin, Needs, Stale, NotCurrent, NotMethod, Spent, TimeSpent, UnknownObject, Sound}
+use Rattle.qu_verdicts.specs.declared.verdict.Verdict.{Verdict}
+use Rattle.qu_verdicts.specs.declared.verdict.Verdict.TheVariants.{Done, Told, Already, Mended, Refused}
+use Rattle.qu_verdicts.specs.Verdict.{number_of_class}
+use Rattle.qu_verdicts.specs.Formats.{class_numbered, class_form, refused_object, latest_told, class_refused, number_told, plain_refusal, plain_object, refusal_body, refusal_form, spelled_stamp, stamp_from, after_told, stamps_form, verdict_code, is_verdict_code, done, told, already, mended, refusal, answered_form, verdict_body, verdict_form}
 
 -- ---- one of two formats, by a test
 
@@ -291,3 +292,16 @@ pub verdict-exact : IsExact verdict_form
 unfolding verdict_form
 verdict-exact = tagged-exact is_verdict_code verdict_code verdict_body (λ code known. verdict_body-exact code)
     verdict_coded
+
+-- ---- each is a prefix code
+
+pub refusal-code : IsPrefixCode refusal_form
+refusal-code = prefix_code refusal_form refusal-exact
+
+pub stamps-code : IsPrefixCode stamps_form
+stamps-code = prefix_code stamps_form stamps-exact
+
+pub verdict-code : IsPrefixCode verdict_form
+verdict-code = prefix_code verdict_form verdict-exact
+
+pub ruleset code_laws = (refusal-code, stamps-code, verdict-code)

@@ -5,12 +5,12 @@ use Rattle.qu_base.specs.declared.party.ObjectId.{ObjectId}
 use Rattle.qu_stamp.specs.declared.stamp.Stamp.{Stamp}
 use Rattle.qu_stamp.specs.Stamp.{same_stamp}
 use Rattle.qu_objects.specs.Alike.{same_answer}
-use Rattle.qu_frames.specs.declared.verdict.ClassCode.{ClassCode}
-use Rattle.qu_frames.specs.declared.verdict.ClassCode.TheVariants as class
-use Rattle.qu_frames.specs.declared.verdict.Refusal.{Refusal}
-use Rattle.qu_frames.specs.declared.verdict.Refusal.TheVariants.{HistoryFull, Thin, Needs, Stale, NotCurrent, NotMethod, Spent, TimeSpent, UnknownObject, Sound}
-use Rattle.qu_frames.specs.declared.verdict.Verdict.{Verdict}
-use Rattle.qu_frames.specs.declared.verdict.Verdict.TheVariants.{Done, Told, Already, Mended, Refused}
+use Rattle.qu_verdicts.specs.declared.verdict.ClassCode.{ClassCode}
+use Rattle.qu_verdicts.specs.declared.verdict.ClassCode.TheVariants as class
+use Rattle.qu_verdicts.specs.declared.verdict.Refusal.{Refusal}
+use Rattle.qu_verdicts.specs.declared.verdict.Refusal.TheVariants.{HistoryFull, Thin, Needs, Stale, NotCurrent, NotMethod, Spent, TimeSpent, UnknownObject, Sound}
+use Rattle.qu_verdicts.specs.declared.verdict.Verdict.{Verdict}
+use Rattle.qu_verdicts.specs.declared.verdict.Verdict.TheVariants.{Done, Told, Already, Mended, Refused}
 
 abbrev pub same_object : ObjectId → ObjectId → Bool
 same_object a b = a.0 == b.0
