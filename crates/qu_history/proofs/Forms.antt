@@ -16,7 +16,7 @@ use Rattle.qu_base.proofs.Reading.{given_exactly}
 use Rattle.qu_base.specs.Bounds.{is_replica_count}
 use Rattle.qu_stamp.specs.declared.stamp.Stamp.{Stamp}
 use Rattle.qu_stamp.specs.declared.candidate.Candidate.{Candidate}
-use Rattle.qu_stamp.specs.Formats.{stamp_form, group_form, basis_form, members_form, spelled_candidate}
+use Rattle.qu_stamp.specs.Formats.{stamp_form, next_stamp, group_form, basis_form, members_form, spelled_candidate}
 use Rattle.qu_stamp.specs.Group.{same_group}
 use Rattle.qu_stamp.specs.Stamp.{opening_stamp, same_stamp}
 use Rattle.qu_stamp.proofs.Forms.{prior_of_opening, group_of_opening, stamp_with-exact, object_from-exact, candidate_with-exact}
@@ -25,7 +25,7 @@ use Rattle.qu_history.specs.declared.sealed.Sealed.{Sealed}
 use Rattle.qu_history.specs.declared.sets.SetOf.{SetOf}
 use Rattle.qu_history.specs.History.{ObjectHistory, is_history, rises_from}
 use Rattle.qu_history.specs.Sets.{histories, is_entry, are_entries, is_set, are_sets_from, are_sets}
-use Rattle.qu_history.specs.Formats.{next_stamp, next_candidate, candidates_form, history_with, history_form, macs_form, sealed_with, sealed_form, entry_form, next_replica, sealed_entry_form, next_entry, entries_form, set_form, sets_form, histories_form, object_text_form, sets_text_form, sealed_from, object_after, shown_form}
+use Rattle.qu_history.specs.Formats.{next_candidate, candidates_form, history_with, history_form, macs_form, sealed_with, sealed_form, entry_form, next_replica, sealed_entry_form, next_entry, entries_form, set_form, sets_form, histories_form, object_text_form, sets_text_form, sealed_from, object_after, shown_form}
 
 -- ---- histories
 

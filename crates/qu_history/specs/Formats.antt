@@ -9,19 +9,13 @@ use Rattle.qu_base.specs.Format.{Format, number, both, tested, made, bytes, item
 use Rattle.qu_base.specs.Bounds.{is_replica_count}
 use Rattle.qu_stamp.specs.declared.stamp.Stamp.{Stamp}
 use Rattle.qu_stamp.specs.declared.candidate.Candidate.{Candidate}
-use Rattle.qu_stamp.specs.Stamp.{opening_stamp, is_below, same_stamp}
-use Rattle.qu_stamp.specs.Formats.{stamp_form, object_from, candidate_with, spelled_candidate}
+use Rattle.qu_stamp.specs.Formats.{next_stamp, object_from, candidate_with, spelled_candidate}
 use Rattle.qu_history.specs.declared.limits.TheConstants.{HISTORY_LIMIT, OBJECTS_LIMIT}
 use Rattle.qu_history.specs.declared.sealed.Sealed.{Sealed}
 use Rattle.qu_history.specs.declared.sets.SetOf.{SetOf}
 use Rattle.qu_history.specs.History.{ObjectHistory}
 
 -- ---- histories
-
--- the stamp of the next candidate: the opening one first, and then one above that before it
-abbrev pub next_stamp : Option Stamp → Format Stamp
-next_stamp None = tested (λ stamp. same_stamp stamp opening_stamp) Range stamp_form
-next_stamp (Some before) = tested (λ stamp. is_below before stamp) Order stamp_form
 
 -- a candidate on this object after one with this stamp
 unfoldable pub next_candidate : ObjectId → Option Stamp → Format Candidate

@@ -3,11 +3,11 @@ ghost use Rattle.qu_base.specs.Format.{items};
 ghost use Rattle.qu_base.specs.Reading.{Reads, Gives};
 ghost use Rattle.qu_stamp.specs.Formats.{spelled_candidate};
 ghost use Rattle.qu_history.specs.History.{is_history};
-ghost use Rattle.qu_history.specs.Formats.{next_stamp, next_candidate, candidates_form};
+ghost use Rattle.qu_history.specs.Formats.{next_candidate, candidates_form};
 
 use super::HISTORY_LIMIT;
-use qu_base::{BadText, Cursor, List, NoMemory, ObjectId, ReadFail, Why};
-use qu_stamp::{Candidate, Stamp, read_basis, read_stamp};
+use qu_base::{BadText, Cursor, List, NoMemory, ObjectId, ReadFail};
+use qu_stamp::{Candidate, Stamp, read_basis, read_next_stamp};
 use std::alloc::Global;
 
 /// A count, and so many candidates on this object by rising stamps: those of a history.
@@ -68,25 +68,11 @@ fn next_candidate(
 ) -> Result<Candidate, BadText>
     ensures { Reads (next_candidate object before) result text.old text.new }
 {
-    let stamp = next_stamp(text, before)?;
+    let stamp = read_next_stamp(text, before)?;
     let (prior, group) = read_basis(text, object, &stamp)?;
     Ok(Candidate {
         stamp,
         prior,
         group,
     })
-}
-
-/// The stamp of the candidate after one with this stamp: the opening one first.
-#[tactic(auto, unfolding(qu_stamp::specs::Stamp::same_stamp))]
-fn next_stamp(text: &mut Cursor, before: Option<Stamp>) -> Result<Stamp, BadText>
-    ensures { Reads (next_stamp before) result text.old text.new }
-{
-    let start = text.ahead();
-    let stamp = read_stamp(text)?;
-    match before {
-        None if stamp != Stamp::opening() => Err(start.refusal(Why::Range)),
-        Some(before) if !before.is_below(&stamp) => Err(start.refusal(Why::Order)),
-        None | Some(_) => Ok(stamp),
-    }
 }

@@ -15,12 +15,12 @@ use Rattle.qu_base.specs.Format.{Format, number, bytes, nothing, both, tested, F
 use Rattle.qu_base.proofs.Formats.{IsWide, wide8, wide16, wide64}
 use Rattle.qu_stamp.specs.declared.stamp.Stamp.{Stamp}
 use Rattle.qu_stamp.specs.declared.candidate.Candidate.{Candidate}
-use Rattle.qu_stamp.specs.Formats.{least_client, most_client, stamp_client_form, stamp_with, stamp_form, object_from, member_form, spelled_member, after_member, may_be_size, members_form, group_form, basis_form, candidate_with, spelled_candidate}
+use Rattle.qu_stamp.specs.Formats.{least_client, most_client, stamp_client_form, stamp_with, stamp_form, next_stamp, object_from, member_form, spelled_member, after_member, may_be_size, members_form, group_form, basis_form, candidate_with, spelled_candidate}
 use Rattle.qu_stamp.specs.declared.limits.TheConstants.{LAST_TIME}
 use Rattle.qu_history.specs.declared.limits.TheConstants.{HISTORY_LIMIT, OBJECTS_LIMIT}
 use Rattle.qu_history.specs.declared.sealed.Sealed.{Sealed}
 use Rattle.qu_history.specs.History.{ObjectHistory}
-use Rattle.qu_history.specs.Formats.{next_stamp, next_candidate, candidates_form, history_with, history_form, macs_form, sealed_with, sealed_form, sealed_from, object_after, shown_form}
+use Rattle.qu_history.specs.Formats.{next_candidate, candidates_form, history_with, history_form, macs_form, sealed_with, sealed_form, sealed_from, object_after, shown_form}
 use Rattle.qu_objects.specs.declared.answer.Answer.TheVariants as answer
 use Rattle.qu_base.specs.declared.kind.Item.TheVariants.{Number, Bytes, Entries}
 use Rattle.qu_base.specs.declared.limits.TheConstants.{CONTENT_LIMIT, NAME_LIMIT, ENTRIES_LIMIT}

@@ -66,6 +66,11 @@ stamp_form = stamp_with true
 abbrev pub plain_stamp_form : Format Stamp
 plain_stamp_form = stamp_with false
 
+-- the stamp of the next candidate of a history: the opening one first, and then one above that before it
+abbrev pub next_stamp : Option Stamp → Format Stamp
+next_stamp None = tested (λ stamp. same_stamp stamp opening_stamp) Range stamp_form
+next_stamp (Some before) = tested (λ stamp. is_below before stamp) Order stamp_form
+
 -- ---- groups
 
 -- an object that is not below this number

@@ -15,7 +15,7 @@ pub use candidate::Candidate;
 pub use formats::formats_are_codes;
 pub use group::Group;
 pub use limits::{LAST_TIME, limits_are_these};
-pub use reading::{read_plain_stamp, read_stamp};
+pub use reading::{read_next_stamp, read_plain_stamp, read_stamp};
 pub use reading_candidate::{Basis, object_from, read_basis, read_candidate};
 pub use stamp::Stamp;
 pub use writing::{write_candidate, write_stamp};

@@ -1,7 +1,7 @@
 ghost use Rattle.std.specs.Prelude.{◌≡◌, OnErr};
 ghost use Rattle.qu_base.specs.Format.{optional, digest_form};
 ghost use Rattle.qu_base.specs.Reading.{Reads, IsRead};
-ghost use Rattle.qu_stamp.specs.Formats.{least_client, most_client, stamp_client_form, stamp_set_form, stamp_with, stamp_form, plain_stamp_form};
+ghost use Rattle.qu_stamp.specs.Formats.{least_client, most_client, stamp_client_form, stamp_set_form, stamp_with, stamp_form, plain_stamp_form, next_stamp};
 
 use super::{LAST_TIME, Stamp};
 use qu_base::{BadText, ClientId, Cursor, Digest, LAST_CLIENT, Why};
@@ -32,6 +32,31 @@ pub fn read_plain_stamp(text: &mut Cursor) -> Result<Stamp, BadText>
     let stamp = stamp_at(&mut ahead, false)?;
     *text = ahead;
     Ok(stamp)
+}
+
+/// The stamp of the candidate of a history after one with this stamp: the opening one first. After a refusal the text
+/// is as before.
+pub fn read_next_stamp(text: &mut Cursor, before: Option<Stamp>) -> Result<Stamp, BadText>
+    ensures read { Reads (next_stamp before) result text.old text.new }
+    ensures kept { OnErr result (text.new ≡ text.old) }
+{
+    let mut ahead = text.ahead();
+    let stamp = next_stamp_at(&mut ahead, before)?;
+    *text = ahead;
+    Ok(stamp)
+}
+
+#[tactic(auto, unfolding(crate::specs::Stamp::same_stamp))]
+fn next_stamp_at(text: &mut Cursor, before: Option<Stamp>) -> Result<Stamp, BadText>
+    ensures { Reads (next_stamp before) result text.old text.new }
+{
+    let start = text.ahead();
+    let stamp = stamp_at(text, true)?;
+    match before {
+        None if stamp != Stamp::opening() => Err(start.refusal(Why::Range)),
+        Some(before) if !before.is_below(&stamp) => Err(start.refusal(Why::Order)),
+        None | Some(_) => Ok(stamp),
+    }
 }
 
 /// The stamp at the front of a text, a barrier's only where it may be.
