@@ -14,10 +14,8 @@ use Rattle.qu_mends.specs.declared.accepted.Accepted.{Accepted}
 use Rattle.qu_rows.specs.State.{ReplicaState, AreHistories}
 use Rattle.qu_mends.specs.Table.{candidates_in}
 use Rattle.qu_rows.specs.Allowed.{MayAccept, MayAcceptAll}
-use Rattle.qu_fitting.specs.Holding.{with_candidate, stored_with, stored_all, accepted_of, accept, accept_all}
-use Rattle.qu_fitting.specs.Holding.{with_histories}
-use Rattle.qu_fitting.proofs.Accepting.{other_history, put_history}
-use Rattle.qu_fitting.proofs.Accepting.{length-with_candidate}
+use Rattle.qu_fitting.specs.Holding.{with_candidate, stored_with, stored_all, accepted_of, accept, accept_all, with_histories}
+use Rattle.qu_fitting.proofs.Accepting.{other_history, put_history, length-with_candidate}
 use Rattle.qu_fitting.proofs.OwnHistories.{accept-histories}
 
 -- ---- one after the other

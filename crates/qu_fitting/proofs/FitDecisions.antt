@@ -23,9 +23,8 @@ use Rattle.qu_verdicts.specs.Formats.{verdict_form}
 use Rattle.qu_rows.specs.declared.decision.Decision.{Decision}
 use Rattle.qu_rows.specs.declared.decision.Decision.TheVariants.{Answers, Waits}
 use Rattle.qu_rows.specs.State.{ReplicaState, own_latest}
-use Rattle.qu_mends.specs.Table.{candidates_in}
+use Rattle.qu_mends.specs.Table.{candidates_in, first_given}
 use Rattle.qu_rows.specs.Rows.{Asked, refuse, row_unknown, row_thin}
-use Rattle.qu_mends.specs.Table.{first_given}
 use Rattle.qu_rows.proofs.Own.{own_history}
 use Rattle.qu_fitting.specs.Fits.{StateFits}
 use Rattle.qu_kept.proofs.RisingObjects.{IsNumbered}

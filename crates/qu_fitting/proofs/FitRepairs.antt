@@ -36,11 +36,12 @@ use Rattle.qu_kept.specs.Performing.{links_to_others, copied_state}
 use Rattle.qu_kept.proofs.EachObject.{objects_named}
 use Rattle.qu_kept.proofs.RisingObjects.{IsNumbered}
 use Rattle.qu_kept.proofs.FitLinks.{links-read, links-fit, others_fit, links_with}
-use Rattle.qu_mends.specs.declared.remedy.Remedy.{Remedy}
-use Rattle.qu_mends.specs.declared.remedy.Remedy.TheVariants.{Nothing, Shown, Fresh, Unshown, Unplanned, Outdated}
+use Rattle.qu_remedies.specs.declared.remedy.Remedy.{Remedy}
+use Rattle.qu_remedies.specs.declared.remedy.Remedy.TheVariants.{Nothing, Shown, Fresh, Unshown, Unplanned, Outdated}
 use Rattle.qu_mends.specs.declared.mend.Mend.{Mend}
-use Rattle.qu_mends.specs.declared.course.Course.{Course}
-use Rattle.qu_mends.specs.Remedy.{shown_member, copied_at, copy_of, copied_member, copy_course, course_by, course_of, fresh_repair}
+use Rattle.qu_remedies.specs.declared.course.Course.{Course}
+use Rattle.qu_remedies.specs.Remedy.{copied_at, copy_of, copied_member}
+use Rattle.qu_mends.specs.Remedy.{shown_member, copy_course, course_by, course_of, fresh_repair}
 use Rattle.qu_mends.specs.Causes.{MakesCandidate, AddsVersion}
 use Rattle.qu_fitting.specs.Fits.{VersionFits}
 use Rattle.qu_fitting.proofs.FitStamps.{CandidateFits, CandidatesFit, object_is, opening_candidate_fits, object_candidate_shown, barrier_candidate_shown, actless_stamp_fits, prior_fits, not_opening, later_time}

@@ -16,8 +16,7 @@ use Rattle.qu_frames.specs.declared.frame.Letter.{Letter}
 use Rattle.qu_frames.specs.Formats.{frame_form}
 use Rattle.qu_versions.specs.declared.stored.Stored.{Stored}
 use Rattle.qu_waiting.specs.Waiting.{Waiting, request_frame_of}
-use Rattle.qu_rows.specs.State.{ReplicaState}
-use Rattle.qu_rows.specs.State.{AreHistories}
+use Rattle.qu_rows.specs.State.{ReplicaState, AreHistories}
 
 -- a value has bytes
 abbrev pub ValueFits : Value → Type 0

@@ -33,9 +33,10 @@ use Rattle.qu_claims.specs.Grounds.{Accepts, IsRemedy}
 use Rattle.qu_mends.specs.declared.mending.Mending.{Mending}
 use Rattle.qu_mends.specs.declared.mending.Mending.TheVariants as mending
 use Rattle.qu_mends.specs.declared.mend.Mend.{Mend}
-use Rattle.qu_mends.specs.declared.remedy.Remedy.TheVariants.{Shown}
-use Rattle.qu_mends.specs.declared.course.Course.{Course}
-use Rattle.qu_mends.specs.Remedy.{whole_group, shown_member, chosen_member, copy_course, course_by, course_of, fresh_member, made_group, remedies_by}
+use Rattle.qu_remedies.specs.declared.remedy.Remedy.TheVariants.{Shown}
+use Rattle.qu_remedies.specs.declared.course.Course.{Course}
+use Rattle.qu_remedies.specs.Remedy.{whole_group, chosen_member, remedies_by}
+use Rattle.qu_mends.specs.Remedy.{shown_member, copy_course, course_by, course_of, fresh_member, made_group}
 use Rattle.qu_mends.specs.Causes.{IsPartAdded, ArePartsAdded, HasCause}
 use Rattle.qu_class.specs.Rows.{AreWellFormed, IsGreatestOfKind, AllShown}
 use Rattle.qu_class.proofs.OfKind.{base_is_greatest, held_if_repairable}

@@ -53,7 +53,7 @@ use Rattle.qu_versions.specs.Versions.{version_at}
 use Rattle.qu_rows.specs.Allowed.{HasParts, MayAcceptAll, MayDecide}
 use Rattle.qu_rows.proofs.Allowed.{decision_on-may}
 use Rattle.qu_claims.specs.Grounds.{Accepts, Performs}
-use Rattle.qu_mends.specs.declared.remedy.Remedy.TheVariants.{Fresh}
+use Rattle.qu_remedies.specs.declared.remedy.Remedy.TheVariants.{Fresh}
 use Rattle.qu_replica.specs.Growth.{HoldsAlike}
 use Rattle.qu_waiting.specs.Waiting.{TakenRequest}
 

@@ -16,12 +16,13 @@ use Rattle.qu_kept.specs.Performing.{copied_state}
 use Rattle.qu_verdicts.specs.declared.verdict.Refusal.{Refusal}
 use Rattle.qu_verdicts.specs.declared.verdict.Refusal.TheVariants.{Needs, Stale, Sound, NotCurrent, TimeSpent, HistoryFull}
 use Rattle.qu_mends.specs.declared.accepted.Accepted.{Accepted}
-use Rattle.qu_mends.specs.declared.remedy.Remedy.{Remedy}
-use Rattle.qu_mends.specs.declared.remedy.Remedy.TheVariants.{Nothing, Shown, Fresh, Unshown, Unplanned, Outdated}
+use Rattle.qu_remedies.specs.declared.remedy.Remedy.{Remedy}
+use Rattle.qu_remedies.specs.declared.remedy.Remedy.TheVariants.{Nothing, Shown, Fresh, Unshown, Unplanned, Outdated}
 use Rattle.qu_mends.specs.declared.mend.Mend.{Mend}
 use Rattle.qu_mends.specs.declared.mending.Mending.{Mending}
 use Rattle.qu_mends.specs.declared.mending.Mending.TheVariants.{Mends, Holds, Refuses, Waits}
-use Rattle.qu_mends.specs.Remedy.{MendPart, fresh_repair, addition_by, addition_of, part_addition, missing_key, wanted_by, stored_by}
+use Rattle.qu_remedies.specs.Remedy.{added_for, wanted_by, stored_by}
+use Rattle.qu_mends.specs.Remedy.{MendPart, fresh_repair, addition_by, addition_of, part_addition, missing_key}
 use Rattle.qu_mends.specs.Table.{first_given, has_no_room}
 use Rattle.qu_mends.specs.Mending.{unplanned_by, is_held_in, is_held_part, is_overtaken, is_late, is_spent, missing_in, accepted_parts, unmended_by, mend_row_plan, mend_row_held, mend_row_current, mend_row_sound, mend_row_version, mend_row_time, mend_row_full, mend_row_mended, decide_mend}
 use Rattle.qu_mends.specs.Causes.{MakesCandidate, AddsVersion, IsBehind, IsSpent, ArePartsOf, AddsPlain, RefusesFor, IsPartAdded, ArePartsAdded, IsPartHeld, HasCause}
@@ -104,7 +105,7 @@ module _ (mend : Mend) where
 
   made : (latest : Stamp) (remedy : Remedy) (candidate : Candidate) → addition_by mend latest remedy ≡ Some candidate
       → MakesCandidate mend latest remedy candidate
-  unfolding addition_by
+  unfolding added_for
   made latest Nothing candidate is = absurd cc
   made latest (Unshown member) candidate is = absurd cc
   made latest (Unplanned other) candidate is = absurd cc
@@ -123,7 +124,7 @@ module _ (mend : Mend) where
   -- what is not refused, and has nothing to add, has no time for it
   spent : (latest : Stamp) (remedy : Remedy) → unplanned_by remedy ≡ None → unmended_by mend.target remedy ≡ None
       → is_none (addition_by mend latest remedy) ≡ true → IsSpent latest remedy
-  unfolding addition_by
+  unfolding added_for
   spent latest Nothing planned unsound none = absurd cc
   spent latest (Unshown member) planned unsound none = absurd cc
   spent latest (Unplanned other) planned unsound none = absurd cc

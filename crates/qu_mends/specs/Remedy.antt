@@ -1,5 +1,5 @@
 -- What is added to the history of an object that is mended, by its class (Query/Update: repair, inline repair).
-use Rattle.std.specs.Prelude.{[], ◌∷◌, ℕ, Bool, true, false, ◌+◌, ◌==◌, ◌≡◌, ◌≤◌, nat_le, nat_lt, if◌then◌else◌, List, find, map, Option, None, Some, Result, Ok, Err, is_none, option_map, IsSome}
+use Rattle.std.specs.Prelude.{[], ℕ, Bool, true, false, ◌+◌, ◌≡◌, ◌≤◌, nat_lt, if◌then◌else◌, List, map, Option, None, Result, Ok, Err, is_none, option_map, IsSome}
 use Rattle.std.specs.List.{list_all}
 use Rattle.qu_base.specs.declared.party.ClientId.{ClientId}
 use Rattle.qu_base.specs.declared.party.Digest.{Digest}
@@ -8,12 +8,10 @@ use Rattle.qu_base.specs.Bounds.{repair}
 use Rattle.qu_stamp.specs.declared.stamp.Stamp.{Stamp}
 use Rattle.qu_stamp.specs.declared.limits.TheConstants.{LAST_TIME}
 use Rattle.qu_stamp.specs.declared.candidate.Candidate.{Candidate}
-use Rattle.qu_stamp.specs.Group.{is_group}
 use Rattle.qu_history.specs.declared.sets.SetOf.{SetOf}
 use Rattle.qu_history.specs.History.{ObjectHistory}
 use Rattle.qu_history.specs.Sets.{entries_of, order_of, latest_of, method_at}
 use Rattle.qu_objects.specs.declared.state.ObjState.{ObjState}
-use Rattle.qu_kept.specs.Performing.{copied_state}
 use Rattle.qu_class.specs.declared.class.Class.{Class}
 use Rattle.qu_class.specs.declared.class.Class.TheVariants.{Method, InlineMethod, Copy, InlineBarrier, Barrier, Needs}
 use Rattle.qu_plan.specs.declared.plan.CopyPlan.{CopyPlan}
@@ -24,21 +22,14 @@ use Rattle.qu_plan.specs.Copying.{plan_of}
 use Rattle.qu_plan.specs.Linking.{Linking}
 use Rattle.qu_class.specs.Repairable.{object_base}
 use Rattle.qu_class.specs.Rows.{MayBeRepaired, IsGreatestOfKind}
-use Rattle.qu_mends.specs.declared.course.Course.{Course}
-use Rattle.qu_mends.specs.declared.remedy.Remedy.{Remedy}
-use Rattle.qu_mends.specs.declared.remedy.Remedy.TheVariants.{Nothing, Shown, Fresh, Unshown, Unplanned, Outdated}
+use Rattle.qu_remedies.specs.declared.course.Course.{Course}
+use Rattle.qu_remedies.specs.declared.remedy.Remedy.{Remedy}
+use Rattle.qu_remedies.specs.declared.remedy.Remedy.TheVariants.{Nothing, Shown, Fresh, Unshown, Unplanned, Outdated}
+use Rattle.qu_remedies.specs.Remedy.{alone, whole_group, joint_course, remedies_by, fresh_for, added_for, wanted_by}
 use Rattle.qu_mends.specs.declared.mend.Mend.{Mend}
-
--- what mends an object, the group whose objects are mended with it, and their remedies, where there is such a group
-abbrev pub alone : Remedy → Course
-alone remedy = record { remedy = remedy; group = []; members = [] }
 
 abbrev pub base_on : ℕ → List SetOf → ObjectId → Candidate
 base_on bounds sets object = object_base bounds (entries_of object sets)
-
--- the group, as each candidate has one that is well formed
-abbrev pub whole_group : List (ObjectId × ℕ) → List (ObjectId × ℕ)
-whole_group group = if is_group group then group else []
 
 -- the object candidate of a member is added as it is
 abbrev pub shown_member : ℕ → List SetOf → ObjectId × ℕ → ObjectId × Remedy
@@ -53,29 +44,9 @@ inline_course bounds sets candidate =
       members = map (shown_member bounds sets) candidate.group;
     }
 
--- the candidate that is copied on an object, as the plan tells
-abbrev pub copied_at : ObjectId → List (ObjectId × Candidate) → Option Candidate
-copied_at object joint = option_map (λ part. part.1) (find (λ part. (part.0).0 == object.0) joint)
-
--- a plan copies its target
-abbrev pub copy_of : ObjectId → Option Candidate → Remedy
-copy_of target (Some chosen) = Fresh false chosen.stamp
-copy_of target None = Unplanned target
-
-abbrev pub chosen_member : ObjectId × Candidate → ObjectId × ℕ
-chosen_member part = (part.0, part.1.stamp.time)
-
-abbrev pub copied_member : ObjectId × Candidate → ObjectId × Remedy
-copied_member part = (part.0, Fresh false part.1.stamp)
-
 -- what is copied is copied on all objects of the plan
 unfoldable pub copy_course : ObjectId → Result CopyPlan PlanFail → Course
-copy_course target (Ok plan) =
-    record {
-      remedy = copy_of target (copied_at target plan.joint);
-      group = whole_group (map chosen_member plan.joint);
-      members = map copied_member plan.joint;
-    }
+copy_course target (Ok plan) = joint_course target plan.joint
 copy_course target (Err (why.Stale other)) = alone (Outdated other)
 copy_course target (Err (why.Needs other)) = alone (Unplanned other)
 copy_course target (Err why.NoMemory) = alone (Unplanned target)
@@ -105,11 +76,6 @@ fresh_member sets member = (member.0, (latest_of (entries_of member.0 sets)).tim
 abbrev pub made_group : List SetOf → List (ObjectId × ℕ) → List (ObjectId × ℕ)
 made_group sets group = if list_all (has_time sets) group then map (fresh_member sets) group else []
 
--- the objects that are mended: those of the group, which lists the target, or the target alone
-unfoldable pub remedies_by : ObjectId → Course → List (ObjectId × ℕ) → List (ObjectId × Remedy)
-remedies_by target course [] = (target, course.remedy) ∷ []
-remedies_by target course (member ∷ later) = course.members
-
 -- a request to mend an object by this course, with what its culled sets say of it
 abbrev pub mend_by : List SetOf → Digest → ObjectId → ClientId → Course → Mend
 mend_by sets set target client course =
@@ -126,8 +92,8 @@ mend_by sets set target client course =
 abbrev pub mend_of : ℕ → List SetOf → Linking → Digest → ObjectId → ClientId → Mend
 mend_of bounds sets link set target client = mend_by sets set target client (course_of bounds sets link target)
 
--- one of them, with the latest stamp that the sets show of it, and with the candidates and the wanted version that the
--- replica has
+-- one of the objects that are mended, with the latest stamp that the sets show of it, and with the candidates and the
+-- wanted version that the replica has
 pub record MendPart : Type 0 where
   pub object : ObjectId
   pub latest : Stamp
@@ -137,25 +103,11 @@ pub record MendPart : Type 0 where
 
 -- the candidate above all that the sets show, of which this stamp is the latest: a barrier or a copy
 abbrev pub fresh_repair : Mend → Stamp → Bool → Stamp → Candidate
-fresh_repair mend latest barrier prior =
-    record {
-      stamp = record {
-        time = latest.time + 1;
-        barrier = barrier;
-        client = mend.client;
-        act = None;
-        set = mend.set;
-      };
-      prior = prior;
-      group = mend.made;
-    }
+fresh_repair mend latest barrier prior = fresh_for mend.client mend.set mend.made latest barrier prior
 
 -- the candidate that the remedy adds; none has a time after the last
-unfoldable pub addition_by : Mend → Stamp → Remedy → Option Candidate
-addition_by mend latest (Shown candidate) = if nat_le candidate.stamp.time LAST_TIME then Some candidate else None
-addition_by mend latest (Fresh barrier prior) =
-    if nat_lt latest.time LAST_TIME then Some (fresh_repair mend latest barrier prior) else None
-addition_by mend latest _ = None
+abbrev pub addition_by : Mend → Stamp → Remedy → Option Candidate
+addition_by mend latest remedy = added_for mend.client mend.set mend.made latest remedy
 
 -- on the target
 abbrev pub addition_of : Mend → Option Candidate
@@ -164,26 +116,10 @@ addition_of mend = addition_by mend mend.latest mend.remedy
 abbrev pub part_addition : Mend → MendPart → Option Candidate
 part_addition mend part = addition_by mend part.latest part.remedy
 
-abbrev pub unless_barrier : {X : Type 0} → Bool → X → Option X
-unless_barrier barrier value = if barrier then None else Some value
-
--- the stamp of the version that what is added has: that of the shown candidate, or that of the copied one. A barrier
--- has no version.
-unfoldable pub wanted_by : Remedy → Option Stamp
-wanted_by (Shown candidate) = unless_barrier candidate.stamp.barrier candidate.stamp
-wanted_by (Fresh barrier prior) = unless_barrier barrier prior
-wanted_by _ = None
-
 -- the wanted version that is missing, as a key
 abbrev pub missing_key : MendPart → Option (ObjectId × Stamp)
 missing_key part =
     if is_none part.version then option_map (λ (stamp : Stamp). (part.object, stamp)) (wanted_by part.remedy) else None
-
--- of the version that was found, what is stored with the candidate that is added to the object: a copy's; that of a
--- shown candidate stands under its own stamp already
-unfoldable pub stored_by : ObjectId → Candidate → Remedy → Option ObjState → Option ObjState
-stored_by object candidate (Fresh false prior) version = option_map (copied_state object candidate) version
-stored_by object candidate _ version = None
 
 -- what is sound is of class METHOD; what is added is shown by as many as may repair, a barrier rests upon the object
 -- candidate, and a copy upon one that as many show

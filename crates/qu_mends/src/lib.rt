@@ -7,7 +7,6 @@ mod course;
 mod mend;
 mod mending;
 mod part;
-mod remedy;
 mod seen;
 mod table;
 
@@ -15,6 +14,5 @@ pub use accepted::Accepted;
 pub use mend::Mend;
 pub use mending::Mending;
 pub use part::Part;
-pub use remedy::Remedy;
 pub use seen::Seen;
 pub use table::has_no_room;

@@ -5,18 +5,17 @@ ghost use Rattle.qu_base.specs.Bounds.{quorum};
 ghost use Rattle.qu_history.specs.Sets.{entries_of, latest_of};
 ghost use Rattle.qu_mends.specs.Table.{has_no_room};
 ghost use Rattle.qu_plan.specs.Linking.{linking};
-ghost use Rattle.qu_mends.specs.Remedy.{mend_of, has_time, fresh_member, made_group, addition_by, missing_key, stored_by, IsGrounded};
+ghost use Rattle.qu_mends.specs.Remedy.{mend_of, has_time, fresh_member, made_group, addition_by, missing_key, IsGrounded};
 ghost use Rattle.qu_mends.specs.Causes.{HasTime, ArePartsOf, HasCause};
 ghost use Rattle.qu_mends.specs.Mending.{is_held_part, is_overtaken, is_late, is_spent, missing_in, accepted_part, accepted_parts, mend_row_plan, mend_row_held, mend_row_current, mend_row_sound, mend_row_version, mend_row_time, mend_row_full, mend_row_mended, decide_mend};
 
-use super::course::Course;
-use super::{Accepted, Mending, Part, Remedy};
+use super::course::course_of;
+use super::{Accepted, Mending, Part};
 use qu_base::{Bounds, ClientId, Digest, List, NoMemory, ObjectId};
 use qu_verdicts::Refusal;
 use qu_history::Sets;
-use qu_kept::copied;
-use qu_objects::ObjState;
 use qu_plan::Fact;
+use qu_remedies::{Remedy, added, stored};
 use qu_stamp::{Candidate, Group, LAST_TIME, Stamp};
 use std::alloc::Global;
 
@@ -71,7 +70,7 @@ impl Mend {
             (λ mend. mend ≡ mend_of bounds.now sets.now (linking facts.now) set target client) }
         ensures grounds { IfOk result (λ mend. IsGrounded bounds.now (entries_of target sets.now) mend.remedy) }
     {
-        let course = Course::of(alloc, sets, target, bounds, facts)?;
+        let course = course_of(alloc, sets, target, bounds, facts)?;
         let remedy = course.remedy;
         let made = made_group(alloc, sets, &course.group)?;
         Ok(Mend {
@@ -254,7 +253,7 @@ impl Mend {
             Some(candidate) => Ok(Some(Accepted {
                 object: part.object,
                 candidate,
-                state: stored(alloc, part, &candidate)?,
+                state: stored(alloc, part.object, &candidate, &part.remedy, part.version)?,
             })),
             None => Ok(None),
         }
@@ -262,37 +261,10 @@ impl Mend {
 
     /// The candidate that would be added to an object with this remedy, of which the sets show this latest stamp. None
     /// has a time after the last.
-    #[tactic(auto, unfolding(crate::specs::Remedy::addition_by))]
     fn addition(&self, latest: &Stamp, remedy: &Remedy) -> Option<Candidate>
         ensures { result ≡ addition_by self.now latest.now remedy.now }
     {
-        match remedy {
-            Remedy::Shown(candidate) if candidate.stamp.time <= LAST_TIME => Some(*candidate),
-            Remedy::Fresh { barrier, prior } => self.fresh(latest, *barrier, *prior),
-            _ => None,
-        }
-    }
-
-    /// The candidate above all that the sets show, a barrier or a copy, which rests upon this stamp.
-    #[tactic(auto, unfolding(crate::specs::Remedy::addition_by))]
-    fn fresh(&self, latest: &Stamp, barrier: bool, prior: Stamp) -> Option<Candidate>
-        ensures { result ≡ addition_by self.now latest.now (Remedy.Fresh barrier prior) }
-    {
-        if latest.time >= LAST_TIME {
-            return None;
-        }
-        let stamp = Stamp {
-            time: latest.time + 1,
-            barrier,
-            client: self.client,
-            act: None,
-            set: self.set,
-        };
-        Some(Candidate {
-            stamp,
-            prior,
-            group: self.made,
-        })
+        added(self.client, self.set, &self.made, latest, remedy)
     }
 }
 
@@ -390,24 +362,6 @@ fn first_full<'s, 'p>(parts: &'s [Part<'p>]) -> Option<&'s Part<'p>>
     ensures { option_copied result ≡ find (λ part. has_no_room part.own) parts.now }
 {
     parts.iter().find(|part| part.is_full())
-}
-
-/// What is stored with the candidate that is added: a copy's version.
-#[tactic(auto, unfolding(crate::specs::Remedy::stored_by))]
-fn stored(
-    alloc: Global,
-    part: &Part<'_>,
-    candidate: &Candidate,
-) -> Result<Option<ObjState>, NoMemory>
-    ensures { IfOk result (λ stored. stored
-        ≡ stored_by part.now.object candidate.now part.now.remedy part.now.version) }
-{
-    match (&part.remedy, part.version) {
-        (Remedy::Fresh { barrier: false, .. }, Some(version)) => {
-            Ok(Some(copied(alloc, version, part.object, candidate)?))
-        }
-        _ => Ok(None),
-    }
 }
 
 /// Whether what would be added is not above what is held.

@@ -5,7 +5,7 @@ use Rattle.qu_plan.specs.declared.plan.CopyPlan.{CopyPlan}
 use Rattle.qu_plan.specs.declared.plan.PlanFail.{PlanFail}
 use Rattle.qu_class.specs.Rows.{MayBeRepaired}
 use Rattle.qu_mends.proofs.Seeing.{ok_planned}
-use Rattle.qu_mends.proofs.course.Course.copy.Goals as goal
+use Rattle.qu_mends.proofs.course.copy.Goals as goal
 
 pub returns-in-Ok-clause-grounds : goal.returns-in-Ok-clause-grounds
 returns-in-Ok-clause-grounds c =

@@ -1,5 +1,5 @@
 ghost use Rattle.std.specs.Prelude.{◌≡◌};
-ghost use Rattle.qu_mends.specs.Remedy.{wanted_by};
+ghost use Rattle.qu_remedies.specs.Remedy.{wanted_by};
 
 use qu_base::ObjectId;
 use qu_stamp::{Candidate, Stamp};
