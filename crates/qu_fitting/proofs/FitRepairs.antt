@@ -26,7 +26,8 @@ use Rattle.qu_class.specs.Class.{is_latest, is_full, barrier_class, class_of, is
 use Rattle.qu_plan.specs.declared.plan.CopyPlan.{CopyPlan}
 use Rattle.qu_plan.specs.declared.plan.PlanFail.{PlanFail}
 use Rattle.qu_plan.specs.declared.plan.PlanFail.TheVariants as fail
-use Rattle.qu_plan.specs.Chosen.{is_repairable, chosen_on}
+use Rattle.qu_together.specs.Beside.{is_repairable}
+use Rattle.qu_plan.specs.Chosen.{chosen_on}
 use Rattle.qu_plan.specs.Copying.{is_outstanding, plan_of}
 use Rattle.qu_plan.specs.Linking.{Linking}
 use Rattle.qu_class.proofs.GroupRule.{inline_by}

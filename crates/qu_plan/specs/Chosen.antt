@@ -1,8 +1,7 @@
 -- What may be copied on an object. A candidate that was accepted together with one on another object is skipped where
 -- that object has gone on without it.
-use Rattle.std.specs.Prelude.{ℕ, Bool, true, false, not, ◌==◌, ◌&&◌, List, filter, Option, None, Some, unwrap_or}
+use Rattle.std.specs.Prelude.{ℕ, Bool, false, not, ◌==◌, ◌&&◌, List, filter, Option, None, Some, unwrap_or}
 use Rattle.std.specs.List.{list_any}
-use Rattle.qu_base.specs.Bounds.{repair}
 use Rattle.qu_base.specs.declared.party.ObjectId.{ObjectId}
 use Rattle.qu_stamp.specs.declared.stamp.Stamp.{Stamp}
 use Rattle.qu_stamp.specs.declared.candidate.Candidate.{Candidate}
@@ -12,17 +11,8 @@ use Rattle.qu_history.specs.declared.sets.SetOf.{SetOf}
 use Rattle.qu_history.specs.Sets.{entries_of, candidates_of, greatest, method_at}
 use Rattle.qu_class.specs.Class.{listed_stamp}
 use Rattle.qu_plan.specs.Linking.{Linking}
-use Rattle.qu_class.specs.Repairable.{is_shown_of_kind}
-
--- without barrier, and of an order that may be repaired
-abbrev pub is_repairable : ℕ → List SetOf → ObjectId → Candidate → Bool
-is_repairable bounds sets object candidate =
-    is_shown_of_kind false (repair bounds) (entries_of object sets) candidate
-
--- the link is none, or below the stamp
-unfoldable pub is_passed : Stamp → Option Stamp → Bool
-is_passed stamp None = true
-is_passed stamp (Some own) = is_below own stamp
+use Rattle.qu_together.specs.Linked.{is_passed}
+use Rattle.qu_together.specs.Beside.{is_repairable}
 
 -- the version of the other object is above this stamp of it, and does not link the object to this stamp or a later one
 unfoldable pub passes_over : Linking → ObjectId → ObjectId → Stamp → Option Candidate → Bool

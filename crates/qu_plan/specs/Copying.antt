@@ -1,11 +1,10 @@
 -- The plan of a copy. What was accepted together is copied together, but for members that are decided already: so the
 -- objects of a plan are those of the group of what is copied, and no other target has another plan of them.
-use Rattle.std.specs.Prelude.{ℕ, Bool, false, not, ◌&&◌, ◌||◌, ◌≡◌, ◌⊎◌, if◌then◌else◌, List, [], ◌∷◌, find, filter_map, Option, None, Some, Result, Ok, Err}
+use Rattle.std.specs.Prelude.{ℕ, Bool, not, ◌&&◌, ◌||◌, ◌≡◌, ◌⊎◌, if◌then◌else◌, List, [], ◌∷◌, find, filter_map, Option, None, Some, Result, Ok, Err}
 use Rattle.std.specs.Option.{option_map}
 use Rattle.qu_base.specs.declared.party.ObjectId.{ObjectId}
 use Rattle.qu_stamp.specs.declared.stamp.Stamp.{Stamp}
 use Rattle.qu_stamp.specs.declared.candidate.Candidate.{Candidate}
-use Rattle.qu_stamp.specs.Stamp.{is_below, same_stamp}
 use Rattle.qu_history.specs.declared.sets.SetOf.{SetOf}
 use Rattle.qu_history.specs.Sets.{entries_of, method_at}
 use Rattle.qu_plan.specs.declared.plan.CopyPlan.{CopyPlan}
@@ -14,6 +13,7 @@ use Rattle.qu_plan.specs.declared.plan.PlanFail.TheVariants.{Needs, Stale}
 use Rattle.qu_plan.specs.Chosen.{chosen_on}
 use Rattle.qu_class.specs.Class.{is_copy, listed_stamp, is_of_group, class_in}
 use Rattle.qu_plan.specs.Linking.{Linking}
+use Rattle.qu_together.specs.Linked.{is_at, is_above}
 
 -- the member's object may be copied with the candidate's: what is chosen there was accepted together with it
 unfoldable pub is_joined : ℕ → List SetOf → Linking → Candidate → ObjectId × ℕ → Bool
@@ -22,14 +22,6 @@ is_joined bounds sets link candidate member =
     && is_of_group (chosen_on bounds sets link member.0) (listed_stamp candidate member) candidate.group
 
 -- ---- what the version of an object of class METHOD, if it is of that class, tells of the target
-
-unfoldable pub is_at : Stamp → Option Stamp → Bool
-is_at stamp None = false
-is_at stamp (Some own) = same_stamp own stamp
-
-unfoldable pub is_above : Stamp → Option Stamp → Bool
-is_above stamp None = false
-is_above stamp (Some own) = is_below stamp own
 
 unfoldable pub link_from : Linking → ObjectId → ObjectId → Option Candidate → Option Stamp
 link_from link target object None = None

@@ -1,5 +1,5 @@
 -- The versions whose links the plan of a copy reads.
-use Rattle.std.specs.Prelude.{ℕ, Bool, ◌==◌, ◌&&◌, ◌||◌, ◌≡◌, if◌then◌else◌, List, filter_map, Option, None, Some}
+use Rattle.std.specs.Prelude.{ℕ, Bool, ◌≡◌, if◌then◌else◌, List, filter_map, Option, None, Some}
 use Rattle.std.specs.Option.{option_map}
 use Rattle.std.specs.List.{AllByRecursion, list_any}
 use Rattle.qu_base.specs.declared.party.ObjectId.{ObjectId}
@@ -7,26 +7,8 @@ use Rattle.qu_stamp.specs.declared.stamp.Stamp.{Stamp}
 use Rattle.qu_stamp.specs.declared.candidate.Candidate.{Candidate}
 use Rattle.qu_history.specs.declared.sets.SetOf.{SetOf}
 use Rattle.qu_history.specs.Sets.{entries_of, method_at}
-use Rattle.qu_plan.specs.Chosen.{is_repairable}
-use Rattle.qu_class.specs.Class.{is_copy, class_in}
 use Rattle.qu_plan.specs.Linking.{Linking}
-
-abbrev pub has_member : ObjectId → Candidate → Bool
-has_member object candidate = list_any (λ member. (member.0).0 == object.0) candidate.group
-
-abbrev pub is_beside : ℕ → List SetOf → ObjectId → ObjectId → Candidate → Bool
-is_beside bounds sets over object candidate =
-    has_member object candidate && is_repairable bounds sets over candidate
-
--- a candidate that may be repaired was accepted together with one on this object
-unfoldable pub reads : ℕ → List SetOf → ObjectId → ObjectId → Bool
-reads bounds sets over object =
-    list_any (λ entry. list_any (is_beside bounds sets over object) entry.candidates) (entries_of over sets)
-
--- what is chosen on this object decides the plan of the target: it may be copied with it
-abbrev pub is_seen : ℕ → List SetOf → ObjectId → ObjectId → Bool
-is_seen bounds sets target over =
-    target.0 == over.0 || (is_copy (class_in bounds sets over) && reads bounds sets target over)
+use Rattle.qu_together.specs.Beside.{reads, is_seen}
 
 abbrev pub if_seen : ℕ → List SetOf → ObjectId → ObjectId → Option ObjectId
 if_seen bounds sets target over = if is_seen bounds sets target over then Some over else None

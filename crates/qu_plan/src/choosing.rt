@@ -2,7 +2,7 @@ ghost use Rattle.std.specs.Prelude.{◌≡◌, All, IsTrue, filter};
 ghost use Rattle.qu_base.specs.Bounds.{AreThresholds, repair};
 ghost use Rattle.qu_history.specs.History.{is_history};
 ghost use Rattle.qu_history.specs.Sets.{entries_of, greatest};
-ghost use Rattle.qu_plan.specs.Chosen.{is_passed, passes_over, is_passed_at, is_skipped, may_be_chosen, greatest_chosen, chosen_on};
+ghost use Rattle.qu_plan.specs.Chosen.{passes_over, is_passed_at, is_skipped, may_be_chosen, greatest_chosen, chosen_on};
 ghost use Rattle.qu_plan.specs.Linking.{linking};
 ghost use Rattle.qu_class.specs.Rows.{AreWellFormed};
 
@@ -10,7 +10,8 @@ use super::known::Known;
 use qu_base::ObjectId;
 use qu_class::{is_shown_of_kind, member_stamp};
 use qu_history::{History, greater_found};
-use qu_stamp::{Candidate, Stamp};
+use qu_stamp::Candidate;
+use qu_together::is_passed;
 
 /// What a copy on the object copies: the greatest candidate without barrier that may be repaired and is not skipped.
 pub(super) fn chosen_on(known: &Known<'_>, object: ObjectId) -> Candidate
@@ -101,16 +102,5 @@ fn is_passed_at(
             stamp.is_below(&version.stamp) && is_passed(&stamp, link)
         }
         None => false,
-    }
-}
-
-/// Whether a link is none, or below the stamp.
-#[tactic(auto, unfolding(crate::specs::Chosen::is_passed))]
-fn is_passed(stamp: &Stamp, link: Option<Stamp>) -> bool
-    ensures { result ≡ is_passed stamp.now link }
-{
-    match link {
-        Some(own) => own.is_below(stamp),
-        None => true,
     }
 }

@@ -2,7 +2,7 @@ ghost use Rattle.std.specs.Prelude.{◌≡◌, ◌⊎◌, All, IfOk, IfErr, IfSo
 ghost use Rattle.std.specs.Option.{option_map};
 ghost use Rattle.qu_history.specs.Sets.{entries_of, method_at};
 ghost use Rattle.qu_class.specs.declared.class.Class.TheVariants.{Copy};
-ghost use Rattle.qu_class.specs.Class.{is_copy, class_in};
+ghost use Rattle.qu_class.specs.Class.{class_in};
 ghost use Rattle.qu_class.specs.Rows.{AreWellFormed, MayBeRepaired};
 ghost use Rattle.qu_plan.specs.Copying.{link_from, is_covered, is_stale, is_outstanding, first_fail, plan_fail_at, joint_part, joint_of, plan_of, Names};
 ghost use Rattle.qu_plan.specs.Linking.{linking};
@@ -11,9 +11,10 @@ use super::choosing::chosen_on;
 use super::fact::Fact;
 use super::known::Known;
 use qu_base::{Bounds, List, NoMemory, ObjectId};
-use qu_class::{Class, classify, is_companion, member_stamp};
+use qu_class::{classify, is_companion, member_stamp};
 use qu_history::Sets;
 use qu_stamp::{Candidate, Stamp};
+use qu_together::{is_above, is_at, is_copy};
 use std::alloc::Global;
 
 /// What a copy copies.
@@ -182,7 +183,6 @@ fn left_at(
 }
 
 /// Whether the last version of the member's object that was made together with one of the target is this member.
-#[tactic(auto, unfolding(crate::specs::Copying::is_at, qu_stamp::specs::Stamp::same_stamp))]
 fn is_covered(
     known: &Known<'_>,
     target: ObjectId,
@@ -192,14 +192,13 @@ fn is_covered(
     ensures { result
         ≡ is_covered known.now.bounds known.now.sets (linking known.now.facts) target candidate.now member }
 {
-    match link_from(known, target, member.0) {
-        Some(own) => own == member_stamp(candidate, member),
-        None => false,
-    }
+    is_at(
+        &member_stamp(candidate, member),
+        link_from(known, target, member.0),
+    )
 }
 
 /// Whether a later one was.
-#[tactic(auto, unfolding(crate::specs::Copying::is_above))]
 fn is_stale(
     known: &Known<'_>,
     target: ObjectId,
@@ -208,10 +207,10 @@ fn is_stale(
 ) -> bool
     ensures { result ≡ is_stale known.now.bounds known.now.sets (linking known.now.facts) target candidate.now member }
 {
-    match link_from(known, target, member.0) {
-        Some(own) => member_stamp(candidate, member).is_below(&own),
-        None => false,
-    }
+    is_above(
+        &member_stamp(candidate, member),
+        link_from(known, target, member.0),
+    )
 }
 
 /// The link to the target that the version of an object has, if the object is of class METHOD.
@@ -241,18 +240,5 @@ fn plan_fail_at(
         PlanFail::Stale(member.0)
     } else {
         PlanFail::Needs(member.0)
-    }
-}
-
-pub(super) fn is_copy(class: &Class) -> bool
-    ensures { result ≡ is_copy class.now }
-{
-    match class {
-        Class::Copy => true,
-        Class::Method(_)
-        | Class::InlineMethod(_)
-        | Class::InlineBarrier(_)
-        | Class::Barrier { .. }
-        | Class::Needs(_) => false,
     }
 }

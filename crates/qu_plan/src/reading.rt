@@ -1,15 +1,15 @@
 ghost use Rattle.std.specs.Prelude.{◌≡◌, IfOk};
 ghost use Rattle.std.specs.List.{list_any};
-ghost use Rattle.qu_history.specs.declared.sealed.Sealed.{Sealed};
 ghost use Rattle.qu_plan.specs.Copying.{plan_of};
-ghost use Rattle.qu_plan.specs.Evidence.{has_member, is_beside, reads, is_seen, if_seen, seen_for, is_read, read_key, evidence_of, AreAlike};
+ghost use Rattle.qu_plan.specs.Evidence.{if_seen, seen_for, is_read, read_key, evidence_of, AreAlike};
 ghost use Rattle.qu_plan.specs.Linking.{Linking};
+ghost use Rattle.qu_together.specs.Beside.{reads};
 
-use super::plan::is_copy;
 use qu_base::{Bounds, List, NoMemory, ObjectId};
-use qu_class::{classify, is_shown_of_kind, method_at};
-use qu_history::{History, Sealed, Sets};
-use qu_stamp::{Candidate, Stamp};
+use qu_class::method_at;
+use qu_history::Sets;
+use qu_stamp::Stamp;
+use qu_together::{is_seen, reads};
 use std::alloc::Global;
 
 /// The versions on which the plan of a copy rests, as object and stamp, by rising object: those of class METHOD of the
@@ -114,66 +114,4 @@ fn any_reads(sets: &Sets, seen: &[ObjectId], object: ObjectId, bounds: &Bounds) 
     ensures { result ≡ list_any (λ over. reads bounds.now sets.now over object) seen.now }
 {
     seen.iter().any(|over| reads(sets, *over, object, bounds))
-}
-
-/// Whether what is chosen on this object decides the plan of the target.
-fn is_seen(sets: &Sets, target: ObjectId, over: ObjectId, bounds: &Bounds) -> bool
-    ensures { result ≡ is_seen bounds.now sets.now target over }
-{
-    target == over || (is_copy(&classify(sets, over, bounds)) && reads(sets, target, over, bounds))
-}
-
-/// Whether what may be chosen on the first object was accepted together with a candidate on the other one.
-fn reads(sets: &Sets, over: ObjectId, object: ObjectId, bounds: &Bounds) -> bool
-    ensures { result ≡ reads bounds.now sets.now over object }
-{
-    reads_any(sets, over, object, bounds, sets.find(over))
-}
-
-fn reads_any(
-    sets: &Sets,
-    over: ObjectId,
-    object: ObjectId,
-    bounds: &Bounds,
-    entries: &[Sealed],
-) -> bool
-    ensures { result ≡ list_any (λ (entry : Sealed). list_any (is_beside bounds.now sets.now over object)
-        entry.history.candidates) entries.now }
-{
-    entries.iter().any(|entry| reads_in(sets, over, object, bounds, &entry.history))
-}
-
-fn reads_in(
-    sets: &Sets,
-    over: ObjectId,
-    object: ObjectId,
-    bounds: &Bounds,
-    history: &History,
-) -> bool
-    ensures { result ≡ list_any (is_beside bounds.now sets.now over object) history.now.candidates }
-{
-    history.candidates().iter().any(|candidate| is_beside(sets, over, object, bounds, candidate))
-}
-
-/// Candidates without a group are not counted.
-fn is_beside(
-    sets: &Sets,
-    over: ObjectId,
-    object: ObjectId,
-    bounds: &Bounds,
-    candidate: &Candidate,
-) -> bool
-    ensures { result ≡ is_beside bounds.now sets.now over object candidate.now }
-{
-    has_member(object, candidate) && is_shown_of_kind(sets, over, false, bounds.r(), candidate)
-}
-
-fn has_member(object: ObjectId, candidate: &Candidate) -> bool
-    ensures { result ≡ has_member object candidate.now }
-{
-    candidate
-        .group
-        .pairs()
-        .iter()
-        .any(|member| member.0 == object)
 }

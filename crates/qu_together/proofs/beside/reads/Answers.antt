@@ -2,9 +2,9 @@
 use Rattle.std.proofs.Common.{List, Bool, ap, ◌∙◌}
 use Rattle.std.specs.List.{list_any}
 use Rattle.qu_history.specs.History.{ObjectHistory}
-use Rattle.qu_plan.specs.Evidence.{is_beside, reads}
-use Rattle.qu_plan.proofs.PlanEvidence.{any_shown}
-use Rattle.qu_plan.proofs.reading.reads.Goals as goal
+use Rattle.qu_together.specs.Beside.{is_beside, reads}
+use Rattle.qu_together.proofs.EntryTests.{any_shown}
+use Rattle.qu_together.proofs.beside.reads.Goals as goal
 
 pub returns : goal.returns
 unfolding reads
