@@ -25,7 +25,7 @@ use Rattle.qu_frames.specs.Formats.{frame_form}
 use Rattle.qu_frames.specs.Signing.{sender, brought, is_signed}
 use Rattle.qu_frames.proofs.Signed.{brought_is_decoded, brought_is_signed}
 use Rattle.qu_rows.specs.State.{ReplicaState}
-use Rattle.qu_waiting.specs.Waiting.{Running}
+use Rattle.qu_lacking.specs.Waiting.{Running}
 use Rattle.qu_fitting.specs.Fits.{StateFits, StepFits}
 use Rattle.qu_replica.specs.Step.{replica_on_received, replica_step}
 use Rattle.qu_fitting.proofs.FitState.{opening-fits}

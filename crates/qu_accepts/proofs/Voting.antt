@@ -25,7 +25,7 @@ use Rattle.qu_frames.specs.declared.frame.Frame.TheVariants as frame
 use Rattle.qu_frames.specs.Signing.{brought}
 use Rattle.qu_frames.proofs.Signed.{brought_is_decoded}
 use Rattle.qu_rows.specs.State.{ReplicaState}
-use Rattle.qu_waiting.specs.Waiting.{Running}
+use Rattle.qu_lacking.specs.Waiting.{Running}
 use Rattle.qu_waiting.specs.Slots.{fetch_under}
 use Rattle.qu_replica.specs.Step.{is_found, completes_fetch, learned}
 use Rattle.qu_replica.proofs.States.Learning.{Learned, is_learned}

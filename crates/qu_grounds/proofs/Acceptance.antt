@@ -65,7 +65,7 @@ use Rattle.qu_versions.specs.declared.stored.Stored.{Stored}
 use Rattle.std.proofs.lemmas.List.{append-nil}
 use Rattle.qu_grounds.proofs.ActAcceptance.{accepted_in, AcceptsNothing, unknown, thin, past, ask_accepts, carried, may_accept, candidates_after, stays, act_moves, alike_candidates}
 use Rattle.qu_replica.specs.Growth.{HoldsAlike}
-use Rattle.qu_waiting.specs.Waiting.{TakenRequest, request_frame_of}
+use Rattle.qu_lacking.specs.Waiting.{TakenRequest, request_frame_of}
 use Rattle.qu_frames.specs.declared.frame.Body.{Body}
 
 -- ---- a repair

@@ -55,7 +55,7 @@ use Rattle.qu_rows.proofs.Allowed.{decision_on-may}
 use Rattle.qu_claims.specs.Grounds.{Accepts, Performs}
 use Rattle.qu_remedies.specs.declared.remedy.Remedy.TheVariants.{Fresh}
 use Rattle.qu_replica.specs.Growth.{HoldsAlike}
-use Rattle.qu_waiting.specs.Waiting.{TakenRequest}
+use Rattle.qu_lacking.specs.Waiting.{TakenRequest}
 
 -- ---- the rows that accept nothing
 

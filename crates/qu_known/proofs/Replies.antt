@@ -36,7 +36,7 @@ use Rattle.qu_fitting.specs.Fits.{StateFits}
 use Rattle.qu_replica.proofs.Fits.FitSteps.{learned-fits, handled-fits}
 use Rattle.qu_fitting.proofs.FitRequests.{RequestFits, request-fits}
 use Rattle.qu_replica.proofs.States.Learning.{Learned, is_learned}
-use Rattle.qu_waiting.specs.Waiting.{TakenRequest, request_frame_of}
+use Rattle.qu_lacking.specs.Waiting.{TakenRequest, request_frame_of}
 use Rattle.qu_mends.specs.declared.accepted.Accepted.{Accepted}
 use Rattle.qu_stamp.specs.declared.stamp.Stamp.{Stamp}
 use Rattle.qu_history.specs.History.{ObjectHistory}

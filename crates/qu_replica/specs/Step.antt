@@ -27,7 +27,7 @@ use Rattle.qu_frames.specs.Blank.{blank_mac}
 use Rattle.qu_frames.specs.Signing.{signed, brought}
 use Rattle.qu_rows.specs.declared.decision.Decision.{Decision}
 use Rattle.qu_rows.specs.declared.decision.Decision.TheVariants.{Answers, Waits}
-use Rattle.qu_waiting.specs.Waiting.{TakenRequest, Running}
+use Rattle.qu_lacking.specs.Waiting.{TakenRequest, Running}
 use Rattle.qu_rows.specs.State.{ReplicaState}
 use Rattle.qu_fitting.specs.Holding.{accept_all}
 use Rattle.qu_waiting.specs.declared.counting.Counting.{Counting}

@@ -69,7 +69,7 @@ use Rattle.qu_rows.specs.Allowed.{has_parts}
 use Rattle.qu_trace.specs.Faulty.{is_faulty}
 use Rattle.qu_shown.proofs.AskedLetters.{AskedBy, asked_letter}
 use Rattle.qu_frames.specs.Decoding.{decoded}
-use Rattle.qu_waiting.specs.Waiting.{TakenRequest}
+use Rattle.qu_lacking.specs.Waiting.{TakenRequest}
 use Rattle.qu_replica.proofs.States.Growth.{accept_all-me}
 use Rattle.qu_replica.proofs.States.Learning.{is_learned}
 

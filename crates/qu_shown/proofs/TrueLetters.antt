@@ -24,7 +24,7 @@ use Rattle.qu_mends.specs.declared.accepted.Accepted.{Accepted}
 use Rattle.qu_rows.specs.declared.decision.Decision.{Decision}
 use Rattle.qu_rows.specs.declared.decision.Decision.TheVariants.{Answers}
 use Rattle.qu_rows.specs.State.{ReplicaState}
-use Rattle.qu_waiting.specs.Waiting.{TakenRequest}
+use Rattle.qu_lacking.specs.Waiting.{TakenRequest}
 use Rattle.qu_fitting.specs.Holding.{accept_all}
 use Rattle.qu_rows.specs.Rows.{asked_at, decision_on}
 use Rattle.qu_replica.specs.Step.{shown, answer_frame, reply, carried_out, learned, handled, if_handled, replica_step}

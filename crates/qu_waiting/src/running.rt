@@ -24,7 +24,7 @@ impl Drop for Running {
 }
 
 impl Model for Running {
-    ghost use Rattle.qu_waiting.specs.Waiting.{Running as Runs};
+    ghost use Rattle.qu_lacking.specs.Waiting.{Running as Runs};
 
     ghost Value = { Runs };
 

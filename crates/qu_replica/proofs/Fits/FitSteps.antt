@@ -49,7 +49,7 @@ use Rattle.qu_stamp.specs.declared.stamp.Stamp.{Stamp}
 use Rattle.qu_objects.specs.declared.state.ObjState.{ObjState}
 use Rattle.qu_versions.specs.Versions.{version_at, has_version}
 use Rattle.qu_seal.specs.Keys.{Ring}
-use Rattle.qu_waiting.specs.Waiting.{Waiting, TakenRequest, Running, request_frame_of}
+use Rattle.qu_lacking.specs.Waiting.{Waiting, TakenRequest, Running, request_frame_of}
 use Rattle.qu_base.specs.declared.party.Party.{Party}
 use Rattle.qu_base.specs.Bounds.{replicas}
 use Rattle.qu_objects.specs.States.{state_form}

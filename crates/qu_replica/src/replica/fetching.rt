@@ -9,7 +9,7 @@ ghost use Rattle.qu_versions.specs.Versions.{has_version};
 ghost use Rattle.qu_frames.specs.declared.frame.Frame.TheVariants as frame;
 ghost use Rattle.qu_objects.specs.States.{state_form};
 ghost use Rattle.qu_base.specs.Bounds.{replicas};
-ghost use Rattle.qu_waiting.specs.Waiting.{taken_by};
+ghost use Rattle.qu_lacking.specs.Waiting.{taken_by};
 ghost use Rattle.qu_rows.specs.State.{AreHistories};
 ghost use Rattle.qu_replica.specs.State.{with_gain};
 ghost use Rattle.qu_waiting.specs.Slots.{with_fetches, without_fetch, first_waiting};

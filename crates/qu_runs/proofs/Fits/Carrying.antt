@@ -38,7 +38,7 @@ use Rattle.qu_client.specs.Rounds as rounds
 use Rattle.qu_world.specs.State.{WorldState, numbered, with_numbered, letter_of}
 use Rattle.qu_claims.specs.Carried.{Carries, Brings, Asks, Tells}
 use Rattle.qu_world.proofs.Each.{set_here}
-use Rattle.qu_waiting.specs.Waiting.{TakenRequest}
+use Rattle.qu_lacking.specs.Waiting.{TakenRequest}
 
 -- ---- a letter carries what was sent
 
