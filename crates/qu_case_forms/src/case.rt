@@ -1,4 +1,5 @@
 use super::no_answer::NoAnswer;
+use super::texts::{number, parted};
 use qu_base::{ClientId, Party, ReplicaId};
 
 /// A case: what it is called, what is done, the further words of its line, the lines below, and the stored answer.
@@ -21,19 +22,15 @@ impl<'a> Case<'a> {
         if !reason.starts_with("# ") {
             return None;
         }
-        Some(Case::asked(line, lines, answer.trim_end()))
-    }
-
-    fn asked(line: &'a str, lines: &'a str, answer: &'a str) -> Case<'a> {
-        let (name, rest) = line.split_once(' ').unwrap_or((line, ""));
-        let (command, words) = rest.split_once(' ').unwrap_or((rest, ""));
-        Case {
+        let (name, rest) = parted(line, " ");
+        let (command, words) = parted(rest, " ");
+        Some(Case {
             name,
             command,
             words,
             lines,
-            answer,
-        }
+            answer: answer.trim_end(),
+        })
     }
 
     /// The word at a place behind the command, empty where there is none.
@@ -42,15 +39,15 @@ impl<'a> Case<'a> {
     }
 
     pub fn number(&self, place: usize) -> Result<u64, NoAnswer> {
-        Ok(self.word(place).parse::<u64>()?)
+        number(self.word(place))
     }
 
     pub fn short(&self, place: usize) -> Result<u16, NoAnswer> {
-        Ok(self.word(place).parse::<u16>()?)
+        self.word(place).parse::<u16>().or(Err(NoAnswer::Number))
     }
 
     pub fn byte(&self, place: usize) -> Result<u8, NoAnswer> {
-        Ok(self.word(place).parse::<u8>()?)
+        self.word(place).parse::<u8>().or(Err(NoAnswer::Number))
     }
 
     pub fn party(&self, place: usize) -> Result<Party, NoAnswer> {
@@ -59,7 +56,7 @@ impl<'a> Case<'a> {
 
     /// The lines before the first line `at ..`.
     pub fn base(&self) -> &'a str {
-        let (base, _) = self.lines.split_once("\nat ").unwrap_or((self.lines, ""));
+        let (base, _) = parted(self.lines, "\nat ");
         base
     }
 }

@@ -1,121 +1,103 @@
 //! What was read, in a line for people. Each function appends to a text.
 
-use qu_base::{ClientId, Digest, List, ObjectId, Party, ReplicaId};
+use super::told::Told;
+use qu_base::{ClientId, List, ObjectId, Party, ReplicaId};
 use qu_frames::{Body, Frame, Refusal, Verdict};
-use qu_history::{Sealed, SetOf, Sets};
-use qu_objects::{Act, Answer, Item, KeptRow, ObjState, Outcome, Query};
-use qu_print::{Piece, put_value};
-use qu_stamp::{Candidate, Group, Stamp};
+use qu_history::{History, Sealed, Sets};
+use qu_objects::{Answer, Item, ObjState, Outcome};
+use qu_print::Piece;
+use qu_stamp::{Candidate, Stamp};
 use sha2::{Digest as Hasher, Sha256};
-use std::alloc::AllocError;
 
-pub fn put_party(party: Party, out: &mut String) -> Result<(), AllocError> {
+pub fn put_party(words: &str, party: Party, out: &mut Told) {
     match party {
-        Party::Replica(replica) => write!(out, "r{}", replica.0),
-        Party::Client(client) => write!(out, "c{}", client.0),
+        Party::Replica(replica) => out.put_replica(words, replica),
+        Party::Client(client) => out.put_client(words, client),
     }
-}
-
-/// Bytes in hexadecimal digits.
-pub fn put_hex(bytes: &[u8], out: &mut String) -> Result<(), AllocError> {
-    for byte in bytes {
-        write!(out, "{byte:02x}")?;
-    }
-    Ok(())
 }
 
 /// The length of a text and its SHA-256.
-pub fn put_hashed(text: &[u8], out: &mut String) -> Result<(), AllocError> {
-    write!(out, "{} ", text.len())?;
-    let hash = Sha256::digest(text);
-    put_hex(hash.as_slice(), out)
+pub fn put_hashed(text: &[u8], out: &mut Told) {
+    out.put_number("", text.len() as u64);
+    out.put(" ");
+    out.put_hex(Sha256::digest(text).as_slice());
 }
 
 /// Time, `barrier` where it is one, client, the digest of the act where there is one, and that of the sets.
-pub fn put_stamp(stamp: &Stamp, out: &mut String) -> Result<(), AllocError> {
+pub fn put_stamp(stamp: &Stamp, out: &mut Told) {
     if *stamp == Stamp::opening() {
-        return out.push_str("opening");
+        out.put("opening");
+        return;
     }
-    put_head(stamp, out)?;
-    put_act_digest(stamp.act, out)?;
-    out.push_str(" sets ")?;
-    put_hex(&stamp.set.0, out)
+    out.put_number("", stamp.time);
+    out.put(if stamp.barrier { " barrier " } else { " " });
+    out.put_client("", stamp.client);
+    out.put(" act ");
+    match stamp.act {
+        Some(digest) => out.put_hex(&digest.0),
+        None => out.put("-"),
+    }
+    out.put(" sets ");
+    out.put_hex(&stamp.set.0);
 }
 
-fn put_head(stamp: &Stamp, out: &mut String) -> Result<(), AllocError> {
-    let barrier = if stamp.barrier { " barrier" } else { "" };
-    write!(out, "{}{barrier} c{} act ", stamp.time, stamp.client.0)
-}
-
-fn put_act_digest(act: Option<Digest>, out: &mut String) -> Result<(), AllocError> {
-    match act {
-        Some(digest) => put_hex(&digest.0, out),
-        None => out.push_str("-"),
+/// The stamp, the prior, and each object of the group with its time, where there is a group.
+pub fn put_candidate(candidate: &Candidate, out: &mut Told) {
+    put_stamp(&candidate.stamp, out);
+    out.put(" on ");
+    put_stamp(&candidate.prior, out);
+    let pairs = candidate.group.pairs();
+    if !pairs.is_empty() {
+        out.put(" group");
+    }
+    for (object, time) in pairs {
+        out.put_object(" ", *object);
+        out.put_number(":", *time);
     }
 }
 
-/// The stamp, the prior, and the group where there is one.
-pub fn put_candidate(candidate: &Candidate, out: &mut String) -> Result<(), AllocError> {
-    put_stamp(&candidate.stamp, out)?;
-    out.push_str(" on ")?;
-    put_stamp(&candidate.prior, out)?;
-    put_group(&candidate.group, out)
+/// Object, replica, number of candidates, and the latest stamp.
+pub fn put_history(history: &History, out: &mut Told) {
+    out.put_object("history ", history.object());
+    out.put_replica(" ", history.replica());
+    out.put_number(" ", history.len() as u64);
+    out.put(" to ");
+    put_stamp(&history.latest(), out);
 }
 
-/// Each object with its time.
-fn put_group(group: &Group, out: &mut String) -> Result<(), AllocError> {
-    if group.pairs().is_empty() {
-        return Ok(());
-    }
-    out.push_str(" group")?;
-    for (object, time) in group.pairs() {
-        write!(out, " {}:{time}", object.0)?;
-    }
-    Ok(())
-}
-
-/// Each object with its entries.
-pub fn put_sets(sets: &Sets, out: &mut String) -> Result<(), AllocError> {
-    out.push_str("sets")?;
+/// Each object with its entries: replica, number of candidates, number of HMACs.
+pub fn put_sets(sets: &Sets, out: &mut Told) {
+    out.put("sets");
     for set in sets.objects() {
-        put_set(set, out)?;
+        out.put_object(" ", set.object);
+        out.put(":");
+        for entry in &set.entries {
+            out.put_replica(" ", entry.history.replica());
+            put_lengths(entry, out);
+        }
     }
-    Ok(())
 }
 
-fn put_set(set: &SetOf, out: &mut String) -> Result<(), AllocError> {
-    write!(out, " {}:", set.object.0)?;
-    for entry in &set.entries {
-        put_entry(entry, out)?;
-    }
-    Ok(())
+/// How many candidates and HMACs an entry has.
+fn put_lengths(entry: &Sealed, out: &mut Told) {
+    out.put_number("/", entry.history.len() as u64);
+    out.put_number("/", entry.macs.len() as u64);
 }
 
-/// Replica, number of candidates, number of HMACs.
-fn put_entry(entry: &Sealed, out: &mut String) -> Result<(), AllocError> {
-    let replica = entry.history.replica().0;
-    write!(
-        out,
-        " r{replica}/{}/{}",
-        entry.history.len(),
-        entry.macs.len()
-    )
-}
-
-pub fn put_answer(answer: &Answer, out: &mut String) -> Result<(), AllocError> {
+pub fn put_answer(answer: &Answer, out: &mut Told) {
     match answer {
-        Answer::Ok(items) => put_items(items.as_slice(), out),
-        Answer::Refused { at, why } => write!(out, "refused {why} at {at}"),
+        Answer::Ok(items) => {
+            out.put("ok");
+            for item in items {
+                out.put(item_word(item));
+                out.put_piece(item);
+            }
+        }
+        Answer::Refused { at, why } => {
+            out.put_number("refused ", u64::from(*why));
+            out.put_number(" at ", u64::from(*at));
+        }
     }
-}
-
-fn put_items(items: &[Item], out: &mut String) -> Result<(), AllocError> {
-    out.push_str("ok")?;
-    for item in items {
-        out.push_str(item_word(item))?;
-        put_piece(item, out)?;
-    }
-    Ok(())
 }
 
 /// What stands before an item.
@@ -127,153 +109,108 @@ fn item_word(item: &Item) -> &'static str {
     }
 }
 
-/// What a report tells of a piece of its line.
-fn put_piece<P: Piece>(piece: &P, out: &mut String) -> Result<(), AllocError> {
-    piece.put(out).map_err(|_| AllocError)
-}
-
-/// The value, what is kept of each client, and each link.
-pub fn put_state(state: &ObjState, out: &mut String) -> Result<(), AllocError> {
-    put_value(out, &state.value).map_err(|_| AllocError)?;
+/// The value; of each client whose act is kept, the number, the digest of the act and the answer; and each link.
+pub fn put_state(state: &ObjState, out: &mut Told) {
+    out.put_value(&state.value);
     for row in &state.kept {
-        put_row(row, out)?;
+        out.put_client(" kept ", row.client);
+        out.put_number(" ", row.number);
+        out.put(" ");
+        out.put_hex(&row.act.0);
+        out.put(" ");
+        put_answer(&row.answer, out);
     }
     for link in &state.links {
-        write!(out, " link {} at ", link.object.0)?;
-        put_stamp(&link.stamp, out)?;
+        put_version(" link ", link.object, &link.stamp, out);
     }
-    Ok(())
 }
 
-/// The client, its number, the digest of the act, and the answer.
-fn put_row(row: &KeptRow, out: &mut String) -> Result<(), AllocError> {
-    write!(out, " kept c{} {} ", row.client.0, row.number)?;
-    put_hex(&row.act.0, out)?;
-    out.push_str(" ")?;
-    put_answer(&row.answer, out)
-}
-
-pub fn put_outcome(outcome: &Outcome, out: &mut String) -> Result<(), AllocError> {
+pub fn put_outcome(outcome: &Outcome, out: &mut Told) {
     match outcome {
         Outcome::Done(answer) => put_answer(answer, out),
-        Outcome::GaveUp => out.push_str("gave up"),
+        Outcome::GaveUp => out.put("gave up"),
     }
 }
 
-fn put_refusal(refusal: &Refusal, out: &mut String) -> Result<(), AllocError> {
-    match refusal {
-        Refusal::NotCurrent(object, latest) => {
-            write!(out, "NotCurrent(ObjectId({})) ", object.0)?;
-            put_stamp(latest, out)
-        }
-        _ => write!(out, "{refusal:?}"),
-    }
-}
-
-fn put_verdict(verdict: &Verdict, out: &mut String) -> Result<(), AllocError> {
+fn put_verdict(verdict: &Verdict, out: &mut Told) {
     match verdict {
         Verdict::Done { stamps, answer } => put_performed("done", stamps.as_slice(), answer, out),
         Verdict::Told { stamps, answer } => put_performed("told", stamps.as_slice(), answer, out),
         Verdict::Already(answer) => {
-            out.push_str("already ")?;
-            put_answer(answer, out)
+            out.put("already ");
+            put_answer(answer, out);
         }
         Verdict::Mended(object, stamp) => {
-            write!(out, "mended {} ", object.0)?;
-            put_stamp(stamp, out)
+            out.put_object("mended ", *object);
+            out.put(" ");
+            put_stamp(stamp, out);
         }
-        Verdict::Refused(refusal) => put_refusal(refusal, out),
+        Verdict::Refused(Refusal::NotCurrent(object, latest)) => {
+            out.put_object("NotCurrent(ObjectId(", *object);
+            out.put(")) ");
+            put_stamp(latest, out);
+        }
+        Verdict::Refused(refusal) => write!(out, "{refusal:?}"),
     }
 }
 
 /// What was done, with which stamps, and the answer.
-fn put_performed(
-    word: &str,
-    stamps: &[(ObjectId, Stamp)],
-    answer: &Answer,
-    out: &mut String,
-) -> Result<(), AllocError> {
-    out.push_str(word)?;
+fn put_performed(word: &str, stamps: &[(ObjectId, Stamp)], answer: &Answer, out: &mut Told) {
+    out.put(word);
     for (object, stamp) in stamps {
-        write!(out, " {} at ", object.0)?;
-        put_stamp(stamp, out)?;
+        put_version(" ", *object, stamp, out);
     }
-    out.push_str(" ")?;
-    put_answer(answer, out)
+    out.put(" ");
+    put_answer(answer, out);
 }
 
-pub fn put_act(act: &Act, out: &mut String) -> Result<(), AllocError> {
-    put_parts(act.parts().as_slice(), out)
-}
-
-pub fn put_query(query: &Query, out: &mut String) -> Result<(), AllocError> {
-    put_parts(query.parts().as_slice(), out)
-}
-
-/// Each part as in a report, with a space before it.
-fn put_parts<P: Piece>(parts: &[P], out: &mut String) -> Result<(), AllocError> {
+/// Each part of an act or a query as in a report, with a space before it.
+pub fn put_parts<P: Piece>(parts: &[P], out: &mut Told) {
     for part in parts {
-        out.push_str(" ")?;
-        put_piece(part, out)?;
+        out.put(" ");
+        out.put_piece(part);
     }
-    Ok(())
 }
 
-fn put_body(body: &Body, out: &mut String) -> Result<(), AllocError> {
+fn put_body(body: &Body, out: &mut Told) {
     match body {
-        Body::Act(act) => put_act(act, out),
-        Body::Ask(query) => put_query(query, out),
-        Body::Mend(target) => write!(out, " mend {}", target.0),
+        Body::Act(act) => put_parts(act.parts().as_slice(), out),
+        Body::Ask(query) => put_parts(query.parts().as_slice(), out),
+        Body::Mend(target) => out.put_object(" mend ", *target),
     }
 }
 
 /// The pairs that a reply culled.
-pub fn put_culled(culled: &[(ObjectId, ReplicaId)], out: &mut String) -> Result<(), AllocError> {
-    out.push_str("culled")?;
+pub fn put_culled(culled: &[(ObjectId, ReplicaId)], out: &mut Told) {
+    out.put("culled");
     for (object, replica) in culled {
-        write!(out, " {}/r{}", object.0, replica.0)?;
+        out.put_object(" ", *object);
+        out.put_replica("/", *replica);
     }
-    Ok(())
 }
 
 /// The histories that a reply shows: object, number of candidates, number of HMACs.
-fn put_shown(shown: &[Sealed], out: &mut String) -> Result<(), AllocError> {
-    out.push_str(" shown")?;
+fn put_shown(shown: &[Sealed], out: &mut Told) {
+    out.put(" shown");
     for sealed in shown {
-        let object = sealed.history.object().0;
-        write!(
-            out,
-            " {object}/{}/{}",
-            sealed.history.len(),
-            sealed.macs.len()
-        )?;
+        out.put_object(" ", sealed.history.object());
+        put_lengths(sealed, out);
     }
-    Ok(())
 }
 
-/// The replica that sends, and of which version.
-fn put_version(
-    kind: &str,
-    replica: ReplicaId,
-    object: ObjectId,
-    stamp: &Stamp,
-    out: &mut String,
-) -> Result<(), AllocError> {
-    write!(out, "{kind} r{} {} at ", replica.0, object.0)?;
-    put_stamp(stamp, out)
+/// Words, then which version of an object.
+fn put_version(words: &str, object: ObjectId, stamp: &Stamp, out: &mut Told) {
+    out.put_object(words, object);
+    out.put(" at ");
+    put_stamp(stamp, out);
 }
 
-/// Which version was fetched, and its state.
-fn put_fetched(
-    replica: ReplicaId,
-    object: ObjectId,
-    stamp: &Stamp,
-    state: &ObjState,
-    out: &mut String,
-) -> Result<(), AllocError> {
-    put_version("fetched", replica, object, stamp, out)?;
-    out.push_str(" ")?;
-    put_state(state, out)
+/// Words, then whose operation, its number and its round.
+fn put_asked(words: &str, client: ClientId, number: u64, round: u8, out: &mut Told) {
+    out.put_client(words, client);
+    out.put_number(" ", number);
+    out.put_number(" round ", u64::from(round));
+    out.put(" ");
 }
 
 fn put_reply(
@@ -284,20 +221,17 @@ fn put_reply(
     verdict: &Verdict,
     culled: &List<(ObjectId, ReplicaId)>,
     shown: &List<Sealed>,
-    out: &mut String,
-) -> Result<(), AllocError> {
-    write!(
-        out,
-        "reply r{} c{} {number} round {round} ",
-        replica.0, client.0
-    )?;
-    put_verdict(verdict, out)?;
-    out.push_str(" ")?;
-    put_culled(culled.as_slice(), out)?;
-    put_shown(shown.as_slice(), out)
+    out: &mut Told,
+) {
+    out.put_replica("reply ", replica);
+    put_asked(" ", client, number, round, out);
+    put_verdict(verdict, out);
+    out.put(" ");
+    put_culled(culled.as_slice(), out);
+    put_shown(shown.as_slice(), out);
 }
 
-pub fn put_frame(frame: &Frame, out: &mut String) -> Result<(), AllocError> {
+pub fn put_frame(frame: &Frame, out: &mut Told) {
     match *frame {
         Frame::Request {
             client,
@@ -307,9 +241,9 @@ pub fn put_frame(frame: &Frame, out: &mut String) -> Result<(), AllocError> {
             ref body,
             ..
         } => {
-            write!(out, "request c{} {number} round {round} ", client.0)?;
-            put_sets(sets, out)?;
-            put_body(body, out)
+            put_asked("request ", client, number, round, out);
+            put_sets(sets, out);
+            put_body(body, out);
         }
         Frame::Reply {
             replica,
@@ -326,13 +260,21 @@ pub fn put_frame(frame: &Frame, out: &mut String) -> Result<(), AllocError> {
             object,
             ref stamp,
             ..
-        } => put_version("fetch", replica, object, stamp, out),
+        } => {
+            out.put_replica("fetch ", replica);
+            put_version(" ", object, stamp, out);
+        }
         Frame::Fetched {
             replica,
             object,
             ref stamp,
             ref state,
             ..
-        } => put_fetched(replica, object, stamp, state, out),
+        } => {
+            out.put_replica("fetched ", replica);
+            put_version(" ", object, stamp, out);
+            out.put(" ");
+            put_state(state, out);
+        }
     }
 }

@@ -16,6 +16,7 @@ mod parts;
 mod reading;
 mod seals;
 mod texts;
+mod told;
 
 pub use answers::answer_bytes;
 pub use case::{Case, party};
@@ -26,4 +27,5 @@ pub use names::{Named, bytes_of, read_names};
 pub use no_answer::NoAnswer;
 pub use reading::one_frame;
 pub use seals::signed_text;
-pub use texts::{repeated, set_off, words_of};
+pub use texts::{parted, repeated, set_off, words_of};
+pub use told::Told;

@@ -1,77 +1,69 @@
 //! Bytes as a person writes them: hexadecimal digits, names of bytes, and `WORD*N` for a word N times.
 
 use super::no_answer::NoAnswer;
+use super::texts::{counted, parted};
 use std::alloc::{AllocError, Global};
 
 /// How many times a piece stands in a block.
 const BLOCK: u64 = 4096;
 
 /// A name and the bytes for which it stands.
-pub type Named = (String, Vec<u8>);
+pub type Named<'a> = (&'a str, Vec<u8>);
 
 /// Adds the names of lines `NAME = WORDS`. Lines that begin with `#`, and those without ` = `, are passed over.
-pub fn read_names(alloc: Global, text: &str, names: &mut Vec<Named>) -> Result<(), NoAnswer> {
+pub fn read_names<'a>(
+    alloc: Global,
+    text: &'a str,
+    names: &mut Vec<Named<'a>>,
+) -> Result<(), NoAnswer> {
     for line in text.lines() {
-        read_line(alloc, line, names)?;
+        match line.split_once(" = ") {
+            Some((name, words)) if !line.starts_with('#') => {
+                let bytes = bytes_of(alloc, names.as_slice(), words)?;
+                names.push((name, bytes))?;
+            }
+            _ => {}
+        }
     }
     Ok(())
 }
 
-fn read_line(alloc: Global, line: &str, names: &mut Vec<Named>) -> Result<(), NoAnswer> {
-    if line.starts_with('#') {
-        return Ok(());
-    }
-    let Some((name, words)) = line.split_once(" = ") else {
-        return Ok(());
-    };
-    let named = read_name(alloc, names.as_slice(), name, words)?;
-    Ok(names.push(named)?)
-}
-
-fn read_name(alloc: Global, names: &[Named], name: &str, words: &str) -> Result<Named, NoAnswer> {
-    let bytes = bytes_of(alloc, names, words)?;
-    Ok((String::from_str(alloc, name)?, bytes))
-}
-
 /// The bytes of all words. Behind a `#` the rest of a line is passed over.
-pub fn bytes_of(alloc: Global, names: &[Named], text: &str) -> Result<Vec<u8>, NoAnswer> {
+pub fn bytes_of(alloc: Global, names: &[Named<'_>], text: &str) -> Result<Vec<u8>, NoAnswer> {
     let mut bytes = Vec::new(alloc);
     for line in text.lines() {
-        put_line(alloc, names, line, &mut bytes)?;
+        let (words, _) = parted(line, "#");
+        for word in words.split_whitespace() {
+            put_word(alloc, names, word, &mut bytes)?;
+        }
     }
     Ok(bytes)
 }
 
-fn put_line(alloc: Global, names: &[Named], line: &str, out: &mut Vec<u8>) -> Result<(), NoAnswer> {
-    let (words, _) = line.split_once('#').unwrap_or((line, ""));
-    for word in words.split_whitespace() {
-        put_word(alloc, names, word, out)?;
-    }
-    Ok(())
-}
-
-fn put_word(alloc: Global, names: &[Named], word: &str, out: &mut Vec<u8>) -> Result<(), NoAnswer> {
-    let (spelled, count) = word.split_once('*').unwrap_or((word, "1"));
-    let count = count.parse::<u64>()?;
+fn put_word(
+    alloc: Global,
+    names: &[Named<'_>],
+    word: &str,
+    out: &mut Vec<u8>,
+) -> Result<(), NoAnswer> {
+    let (spelled, count) = counted(word)?;
     match named(names, spelled) {
         Some(piece) => Ok(put_times(alloc, piece, count, out)?),
-        None => put_digits(alloc, spelled, count, out),
+        None => {
+            let piece = hex::decode(alloc, spelled)?;
+            Ok(put_times(alloc, piece.as_slice(), count, out)?)
+        }
     }
 }
 
 /// The bytes for which a name stands.
-fn named<'a>(names: &'a [Named], word: &str) -> Option<&'a [u8]> {
+fn named<'a>(names: &'a [Named<'_>], word: &str) -> Option<&'a [u8]> {
     for (name, bytes) in names {
-        if name.as_str() == word {
+        if *name == word {
             return Some(bytes.as_slice());
         }
     }
     None
-}
-
-fn put_digits(alloc: Global, word: &str, count: u64, out: &mut Vec<u8>) -> Result<(), NoAnswer> {
-    let piece = hex::decode(alloc, word)?;
-    Ok(put_times(alloc, piece.as_slice(), count, out)?)
 }
 
 /// A piece so many times. Where that is often, by blocks of it, since a text may have millions of bytes.

@@ -1,18 +1,19 @@
 //! What the readers of the crates make of bytes: a line for people, and the bytes as they are written again.
 
 use super::forms::{
-    put_act, put_answer, put_candidate, put_frame, put_query, put_sets, put_stamp, put_state,
+    put_answer, put_candidate, put_frame, put_history, put_parts, put_sets, put_stamp, put_state,
 };
 use super::reading::{
     one_act, one_answer, one_candidate, one_frame, one_history, one_query, one_stamp, one_state,
     some_sets,
 };
+use super::told::Told;
 use qu_base::{NoMemory, ObjectId, Outbytes, ReadFail};
 use qu_frames::{Frame, encode};
-use qu_history::{History, write_sets};
-use qu_objects::{ObjState, write_act, write_answer, write_query, write_state};
-use qu_stamp::{write_candidate, write_stamp};
-use std::alloc::{AllocError, Global};
+use qu_history::{History, Sets, write_sets};
+use qu_objects::{Act, Answer, ObjState, Query, write_act, write_answer, write_query, write_state};
+use qu_stamp::{Candidate, Stamp, write_candidate, write_stamp};
+use std::alloc::Global;
 
 /// The objects that stand in the sets before a body.
 const KNOWN: [ObjectId; 2] = [ObjectId(5), ObjectId(63)];
@@ -40,12 +41,6 @@ impl Part {
             "candidate" => Some(Part::Candidate),
             "history" => Some(Part::History),
             "sets" => Some(Part::Sets),
-            _ => Part::of_operation(word),
-        }
-    }
-
-    fn of_operation(word: &str) -> Option<Part> {
-        match word {
             "act" => Some(Part::Act),
             "query" => Some(Part::Query),
             "answer" => Some(Part::Answer),
@@ -55,141 +50,62 @@ impl Part {
     }
 
     /// Reads the part from the start of a text; a frame is the whole text.
-    pub fn read(
-        self,
-        alloc: Global,
-        text: &[u8],
-        form: &mut String,
-        spelled: &mut Outbytes,
-    ) -> Result<(), ReadFail> {
+    pub fn read(self, alloc: Global, text: &[u8]) -> Result<Found, ReadFail> {
         match self {
-            Part::Frame => tell_frame(alloc, text, form, spelled),
-            Part::Stamp => tell_stamp(text, form, spelled),
-            Part::Candidate => tell_candidate(text, form, spelled),
-            Part::History => tell_history(alloc, text, form, spelled),
-            Part::Sets => tell_sets(alloc, text, form, spelled),
-            Part::Act => tell_act(alloc, text, form, spelled),
-            Part::Query => tell_query(alloc, text, form, spelled),
-            Part::Answer => tell_answer(alloc, text, form, spelled),
-            Part::State => tell_state(alloc, text, form, spelled),
+            Part::Frame => Ok(Found::Frame(one_frame(alloc, text)?)),
+            Part::Stamp => Ok(Found::Stamp(one_stamp(text)?)),
+            Part::Candidate => Ok(Found::Candidate(one_candidate(KNOWN[0], text)?)),
+            Part::History => Ok(Found::History(one_history(alloc, text)?)),
+            Part::Sets => Ok(Found::Sets(some_sets(alloc, text)?)),
+            Part::Act => Ok(Found::Act(one_act(alloc, &KNOWN, text)?)),
+            Part::Query => Ok(Found::Query(one_query(alloc, &KNOWN, text)?)),
+            Part::Answer => Ok(Found::Answer(one_answer(alloc, text)?)),
+            Part::State => Ok(Found::State(one_state(alloc, text)?)),
         }
     }
 }
 
-fn tell_frame(
-    alloc: Global,
-    text: &[u8],
-    form: &mut String,
-    spelled: &mut Outbytes,
-) -> Result<(), ReadFail> {
-    let frame = one_frame(alloc, text)?;
-    tell_read_frame(alloc, &frame, form, spelled)
+/// What was read.
+#[derive(Drop)]
+pub enum Found {
+    Frame(Frame),
+    Stamp(Stamp),
+    Candidate(Candidate),
+    History(History),
+    Sets(Sets),
+    Act(Act),
+    Query(Query),
+    Answer(Answer),
+    State(ObjState),
 }
 
-fn tell_read_frame(
-    alloc: Global,
-    frame: &Frame,
-    form: &mut String,
-    spelled: &mut Outbytes,
-) -> Result<(), ReadFail> {
-    put_frame(frame, form)?;
-    Ok(spell_frame(alloc, frame, spelled)?)
-}
+impl Found {
+    pub fn put(&self, out: &mut Told) {
+        match self {
+            Found::Frame(frame) => put_frame(frame, out),
+            Found::Stamp(stamp) => put_stamp(stamp, out),
+            Found::Candidate(candidate) => put_candidate(candidate, out),
+            Found::History(history) => put_history(history, out),
+            Found::Sets(sets) => put_sets(sets, out),
+            Found::Act(act) => put_parts(act.parts().as_slice(), out),
+            Found::Query(query) => put_parts(query.parts().as_slice(), out),
+            Found::Answer(answer) => put_answer(answer, out),
+            Found::State(state) => put_state(state, out),
+        }
+    }
 
-fn spell_frame(alloc: Global, frame: &Frame, spelled: &mut Outbytes) -> Result<(), NoMemory> {
-    let text = encode(alloc, frame)?;
-    spelled.put(text.as_slice())
-}
-
-fn tell_stamp(text: &[u8], form: &mut String, spelled: &mut Outbytes) -> Result<(), ReadFail> {
-    let stamp = one_stamp(text)?;
-    put_stamp(&stamp, form)?;
-    Ok(write_stamp(&stamp, spelled)?)
-}
-
-fn tell_candidate(text: &[u8], form: &mut String, spelled: &mut Outbytes) -> Result<(), ReadFail> {
-    let candidate = one_candidate(KNOWN[0], text)?;
-    put_candidate(&candidate, form)?;
-    Ok(write_candidate(&candidate, spelled)?)
-}
-
-fn tell_history(
-    alloc: Global,
-    text: &[u8],
-    form: &mut String,
-    spelled: &mut Outbytes,
-) -> Result<(), ReadFail> {
-    let history = one_history(alloc, text)?;
-    put_history(&history, form)?;
-    Ok(history.write(spelled)?)
-}
-
-/// Object, replica, number of candidates, and the latest stamp.
-fn put_history(history: &History, out: &mut String) -> Result<(), AllocError> {
-    let (object, replica) = (history.object().0, history.replica().0);
-    write!(out, "history {object} r{replica} {} to ", history.len())?;
-    put_stamp(&history.latest(), out)
-}
-
-fn tell_sets(
-    alloc: Global,
-    text: &[u8],
-    form: &mut String,
-    spelled: &mut Outbytes,
-) -> Result<(), ReadFail> {
-    let sets = some_sets(alloc, text)?;
-    put_sets(&sets, form)?;
-    Ok(write_sets(&sets, spelled)?)
-}
-
-fn tell_act(
-    alloc: Global,
-    text: &[u8],
-    form: &mut String,
-    spelled: &mut Outbytes,
-) -> Result<(), ReadFail> {
-    let act = one_act(alloc, &KNOWN, text)?;
-    put_act(&act, form)?;
-    Ok(write_act(&act, spelled)?)
-}
-
-fn tell_query(
-    alloc: Global,
-    text: &[u8],
-    form: &mut String,
-    spelled: &mut Outbytes,
-) -> Result<(), ReadFail> {
-    let query = one_query(alloc, &KNOWN, text)?;
-    put_query(&query, form)?;
-    Ok(write_query(&query, spelled)?)
-}
-
-fn tell_answer(
-    alloc: Global,
-    text: &[u8],
-    form: &mut String,
-    spelled: &mut Outbytes,
-) -> Result<(), ReadFail> {
-    let answer = one_answer(alloc, text)?;
-    put_answer(&answer, form)?;
-    Ok(write_answer(&answer, spelled)?)
-}
-
-fn tell_state(
-    alloc: Global,
-    text: &[u8],
-    form: &mut String,
-    spelled: &mut Outbytes,
-) -> Result<(), ReadFail> {
-    let state = one_state(alloc, text)?;
-    tell_read_state(&state, form, spelled)
-}
-
-fn tell_read_state(
-    state: &ObjState,
-    form: &mut String,
-    spelled: &mut Outbytes,
-) -> Result<(), ReadFail> {
-    put_state(state, form)?;
-    Ok(write_state(state, spelled)?)
+    /// Writes the bytes again.
+    pub fn write(&self, alloc: Global, out: &mut Outbytes) -> Result<(), NoMemory> {
+        match self {
+            Found::Frame(frame) => out.put(encode(alloc, frame)?.as_slice()),
+            Found::Stamp(stamp) => write_stamp(stamp, out),
+            Found::Candidate(candidate) => write_candidate(candidate, out),
+            Found::History(history) => history.write(out),
+            Found::Sets(sets) => write_sets(sets, out),
+            Found::Act(act) => write_act(act, out),
+            Found::Query(query) => write_query(query, out),
+            Found::Answer(answer) => write_answer(answer, out),
+            Found::State(state) => write_state(state, out),
+        }
+    }
 }

@@ -1,7 +1,7 @@
 //! The readers of the crates. They stand here without what they promise, so that the functions that call them
 //! know nothing of it, and are proved fast.
 
-use qu_base::{BadText, Cursor, NoMemory, ObjectId, Party, ReadFail};
+use qu_base::{Cursor, NoMemory, ObjectId, Party, ReadFail};
 use qu_decoding::{decode, receive};
 use qu_frames::Frame;
 use qu_history::{History, Sets, read_sets};
@@ -24,13 +24,13 @@ pub fn frame_to(
     receive(alloc, keys, to, text)
 }
 
-pub fn one_stamp(text: &[u8]) -> Result<Stamp, BadText> {
-    read_stamp(&mut Cursor::new(text))
+pub fn one_stamp(text: &[u8]) -> Result<Stamp, ReadFail> {
+    Ok(read_stamp(&mut Cursor::new(text))?)
 }
 
 /// A candidate on this object.
-pub fn one_candidate(object: ObjectId, text: &[u8]) -> Result<Candidate, BadText> {
-    read_candidate(&mut Cursor::new(text), object)
+pub fn one_candidate(object: ObjectId, text: &[u8]) -> Result<Candidate, ReadFail> {
+    Ok(read_candidate(&mut Cursor::new(text), object)?)
 }
 
 pub fn one_history(alloc: Global, text: &[u8]) -> Result<History, ReadFail> {

@@ -1,76 +1,51 @@
 //! Classes of sets, digests, HMACs and keys.
 
 use super::case::Case;
-use super::forms::{
-    put_candidate, put_culled, put_frame, put_hashed, put_hex, put_sets, put_stamp,
-};
+use super::forms::{put_candidate, put_culled, put_frame, put_hashed, put_sets, put_stamp};
 use super::names::{Named, bytes_of};
 use super::no_answer::NoAnswer;
 use super::reading::{frame_to, one_act, one_frame, one_history, some_sets};
-use qu_base::{Bounds, ClientId, Cursor, Digest, List, NoMemory, ObjectId, Party, ReplicaId};
+use super::texts::parted;
+use super::told::Told;
+use qu_base::{Bounds, ClientId, Cursor, Digest, List, ObjectId, Party, ReplicaId};
 use qu_class::method_at;
-use qu_frames::{Frame, text_digest};
+use qu_frames::text_digest;
 use qu_history::{Culled, Sets};
 use qu_objects::act_digest;
 use qu_seal::{KeyRing, digest, hmac};
-use qu_stamp::{Candidate, Stamp};
-use std::alloc::{AllocError, Global};
+use qu_stamp::Candidate;
+use std::alloc::Global;
 
 fn bounds(number: u8) -> Result<Bounds, NoAnswer> {
-    match Bounds::new(number) {
-        Ok(bounds) => Ok(bounds),
-        Err(_) => Err(NoAnswer::Number),
-    }
+    Bounds::new(number).or(Err(NoAnswer::Number))
 }
 
 /// `method B OBJECT`: the candidate on which an operation may rest, how many entries hold it, and the
 /// latest stamp.
-pub fn method(
-    alloc: Global,
-    case: &Case<'_>,
-    text: &[u8],
-    out: &mut String,
-) -> Result<(), NoAnswer> {
-    let bounds = bounds(case.byte(0)?)?;
+pub fn method(alloc: Global, case: &Case<'_>, text: &[u8], out: &mut Told) -> Result<(), NoAnswer> {
+    let bounds = case.byte(0).and_then(bounds)?;
     let object = ObjectId(case.short(1)?);
     let sets = some_sets(alloc, text)?;
-    Ok(put_class(&sets, object, &bounds, out)?)
+    put_class(&sets, object, &bounds, out);
+    Ok(())
 }
 
-fn put_class(
-    sets: &Sets,
-    object: ObjectId,
-    bounds: &Bounds,
-    out: &mut String,
-) -> Result<(), AllocError> {
-    put_base(sets, object, method_at(sets, object, bounds), out)?;
+fn put_class(sets: &Sets, object: ObjectId, bounds: &Bounds, out: &mut Told) {
+    match method_at(sets, object, bounds) {
+        Some(base) => {
+            out.put("METHOD ");
+            put_candidate(&base, out);
+            out.put_number(" in ", u64::from(sets.count(object, &base)));
+        }
+        None => out.put("not METHOD"),
+    }
     let opening = sets.count(object, &Candidate::opening());
-    write!(
-        out,
-        "\n{} entries, {opening} with the opening, latest ",
-        sets.entries(object)
-    )?;
-    put_latest(sets.latest(object), out)
-}
-
-fn put_base(
-    sets: &Sets,
-    object: ObjectId,
-    base: Option<Candidate>,
-    out: &mut String,
-) -> Result<(), AllocError> {
-    let Some(base) = base else {
-        return out.push_str("not METHOD");
-    };
-    out.push_str("METHOD ")?;
-    put_candidate(&base, out)?;
-    write!(out, " in {}", sets.count(object, &base))
-}
-
-fn put_latest(latest: Option<Stamp>, out: &mut String) -> Result<(), AllocError> {
-    match latest {
+    out.put_number("\n", u64::from(sets.entries(object)));
+    out.put_number(" entries, ", u64::from(opening));
+    out.put(" with the opening, latest ");
+    match sets.latest(object) {
         Some(latest) => put_stamp(&latest, out),
-        None => out.push_str("none"),
+        None => out.put("none"),
     }
 }
 
@@ -79,64 +54,79 @@ pub fn digest_of(
     alloc: Global,
     case: &Case<'_>,
     text: &[u8],
-    out: &mut String,
+    out: &mut Told,
 ) -> Result<(), NoAnswer> {
-    let digest = match case.word(0) {
-        "history" => digest_of_history(alloc, text)?,
-        "sets" => digest_of_sets(alloc, text)?,
-        "frame" => text_digest(text),
-        "act" => digest_of_act(alloc, case, text)?,
-        _ => digest(case.byte(0)?, text),
-    };
-    Ok(put_hex(&digest.0, out)?)
+    let digest = digest_by(alloc, case, text)?;
+    out.put_hex(&digest.0);
+    Ok(())
+}
+
+fn digest_by(alloc: Global, case: &Case<'_>, text: &[u8]) -> Result<Digest, NoAnswer> {
+    match case.word(0) {
+        "history" => digest_of_history(alloc, text),
+        "sets" => digest_of_sets(alloc, text),
+        "frame" => Ok(text_digest(text)),
+        "act" => digest_of_act(alloc, case, text),
+        _ => Ok(digest(case.byte(0)?, text)),
+    }
 }
 
 fn digest_of_history(alloc: Global, text: &[u8]) -> Result<Digest, NoAnswer> {
     let history = one_history(alloc, text)?;
-    Ok(history.digest(alloc)?)
+    history.digest(alloc).or(Err(NoAnswer::NoMemory))
 }
 
 fn digest_of_sets(alloc: Global, text: &[u8]) -> Result<Digest, NoAnswer> {
     let sets = some_sets(alloc, text)?;
-    Ok(sets.digest_of(alloc)?)
+    sets.digest_of(alloc).or(Err(NoAnswer::NoMemory))
 }
 
 fn digest_of_act(alloc: Global, case: &Case<'_>, text: &[u8]) -> Result<Digest, NoAnswer> {
     let (client, number) = (ClientId(case.short(1)?), case.number(2)?);
     let known = [ObjectId(0), ObjectId(5), ObjectId(63)];
     let act = one_act(alloc, &known, text)?;
-    Ok(act_digest(alloc, client, number, &act)?)
+    act_digest(alloc, client, number, &act).or(Err(NoAnswer::NoMemory))
 }
 
 /// `hmac`: the HMAC of the bytes under the key of the line `at key BYTES`.
 pub fn hmac_of(
     alloc: Global,
-    names: &[Named],
+    names: &[Named<'_>],
     case: &Case<'_>,
     text: &[u8],
-    out: &mut String,
+    out: &mut Told,
 ) -> Result<(), NoAnswer> {
-    let (_, words) = case.lines.split_once("\nat key ").unwrap_or(("", ""));
+    let (_, words) = parted(case.lines, "\nat key ");
     let key = bytes_of(alloc, names, words)?;
-    Ok(put_hex(&hmac(key.as_slice(), text), out)?)
+    out.put_hex(&hmac(key.as_slice(), text));
+    Ok(())
 }
 
 /// The keys of a seed, of 6 replicas and 64 clients.
 fn ring(case: &Case<'_>) -> Result<KeyRing, NoAnswer> {
-    let seed = case.number(0)?;
-    Ok(KeyRing::derive(seed, &bounds(1)?, 64))
+    match (case.number(0), Bounds::new(1)) {
+        (Ok(seed), Ok(bounds)) => Ok(KeyRing::derive(seed, &bounds, 64)),
+        _ => Err(NoAnswer::Number),
+    }
 }
 
 /// `mac SEED FROM TO`: the HMAC of a digest under the key of a pair, and whether the other verifies it.
-pub fn mac(case: &Case<'_>, text: &[u8], out: &mut String) -> Result<(), NoAnswer> {
+pub fn mac(case: &Case<'_>, text: &[u8], out: &mut Told) -> Result<(), NoAnswer> {
     let keys = ring(case)?;
-    let (from, to) = (case.party(1)?, case.party(2)?);
-    let Ok(digest) = Cursor::new(text).digest() else {
-        return Err(NoAnswer::Bytes);
-    };
-    let mac = keys.seal_for(from, to, &digest);
-    put_hex(&mac, out)?;
-    Ok(write!(out, " verified: {}", keys.verifies(to, from, &digest, &mac))?)
+    match (case.party(1), case.party(2), Cursor::new(text).digest()) {
+        (Ok(from), Ok(to), Ok(digest)) => put_mac(&keys, from, to, &digest, out),
+        _ => return Err(NoAnswer::Word),
+    }
+    Ok(())
+}
+
+fn put_mac(keys: &KeyRing, from: Party, to: Party, digest: &Digest, out: &mut Told) {
+    let mac = keys.seal_for(from, to, digest);
+    out.put_hex(&mac);
+    out.put(match keys.verifies(to, from, digest, &mac) {
+        true => " verified: true",
+        false => " verified: false",
+    });
 }
 
 /// The text of a frame with the HMAC that its sender makes for a party.
@@ -147,28 +137,15 @@ pub fn signed_text(
     text: &[u8],
 ) -> Result<List<u8>, NoAnswer> {
     let frame = one_frame(alloc, text)?;
-    signed_frame(alloc, keys, to, &frame)
-}
-
-fn signed_frame(
-    alloc: Global,
-    keys: &KeyRing,
-    to: Party,
-    frame: &Frame,
-) -> Result<List<u8>, NoAnswer> {
-    Ok(frame.signed(alloc, keys, to)?)
+    frame.signed(alloc, keys, to).or(Err(NoAnswer::NoMemory))
 }
 
 /// `signed SEED TO`: the length and SHA-256 of a frame with the HMAC that its sender makes for a party.
-pub fn signed(
-    alloc: Global,
-    case: &Case<'_>,
-    text: &[u8],
-    out: &mut String,
-) -> Result<(), NoAnswer> {
+pub fn signed(alloc: Global, case: &Case<'_>, text: &[u8], out: &mut Told) -> Result<(), NoAnswer> {
     let keys = ring(case)?;
     let text = signed_text(alloc, &keys, case.party(1)?, text)?;
-    Ok(put_hashed(text.as_slice(), out)?)
+    put_hashed(text.as_slice(), out);
+    Ok(())
 }
 
 /// `receive SEED TO`: the frame that the bytes bring to a party.
@@ -176,41 +153,33 @@ pub fn received(
     alloc: Global,
     case: &Case<'_>,
     text: &[u8],
-    out: &mut String,
+    out: &mut Told,
 ) -> Result<(), NoAnswer> {
     let keys = ring(case)?;
-    let found = frame_to(alloc, &keys, case.party(1)?, text)?;
-    put_found(&found, out)
-}
-
-fn put_found(found: &Option<Frame>, out: &mut String) -> Result<(), NoAnswer> {
-    match found {
-        Some(frame) => Ok(put_frame(frame, out)?),
-        None => Ok(out.push_str("ignored")?),
+    match frame_to(alloc, &keys, case.party(1)?, text)? {
+        Some(frame) => put_frame(&frame, out),
+        None => out.put("ignored"),
     }
+    Ok(())
 }
 
 /// `cull SEED R`: the sets that stay at a replica, and the entries that are left out.
-pub fn cull(alloc: Global, case: &Case<'_>, text: &[u8], out: &mut String) -> Result<(), NoAnswer> {
+pub fn cull(alloc: Global, case: &Case<'_>, text: &[u8], out: &mut Told) -> Result<(), NoAnswer> {
     let keys = ring(case)?;
     let me = ReplicaId(case.byte(1)?);
-    let sets = some_sets(alloc, text)?;
-    cull_sets(alloc, &sets, me, &keys, out)
+    let culled = cull_text(alloc, text, me, &keys)?;
+    put_sets(&culled.sets, out);
+    out.put(" ");
+    put_culled(culled.left.as_slice(), out);
+    Ok(())
 }
 
-fn cull_sets(
+fn cull_text(
     alloc: Global,
-    sets: &Sets,
+    text: &[u8],
     me: ReplicaId,
     keys: &KeyRing,
-    out: &mut String,
-) -> Result<(), NoAnswer> {
-    let culled = cull_by(alloc, sets, me, keys)?;
-    put_sets(&culled.sets, out)?;
-    out.push_str(" ")?;
-    Ok(put_culled(culled.left.as_slice(), out)?)
-}
-
-fn cull_by(alloc: Global, sets: &Sets, me: ReplicaId, keys: &KeyRing) -> Result<Culled, NoMemory> {
-    sets.cull(alloc, me, keys)
+) -> Result<Culled, NoAnswer> {
+    let sets = some_sets(alloc, text)?;
+    sets.cull(alloc, me, keys).or(Err(NoAnswer::NoMemory))
 }

@@ -2,59 +2,65 @@
 
 use super::names::put_times;
 use super::no_answer::NoAnswer;
+use super::told::Told;
 use std::alloc::{AllocError, Global};
+
+/// The text before the first of these words in it, and the text behind; the whole and nothing where it has none.
+pub fn parted<'a>(text: &'a str, by: &str) -> (&'a str, &'a str) {
+    text.split_once(by).unwrap_or((text, ""))
+}
+
+/// The word of a word `WORD*N`, and N; once where there is no number.
+pub fn counted(word: &str) -> Result<(&str, u64), NoAnswer> {
+    match word.split_once('*') {
+        Some((word, count)) => Ok((word, number(count)?)),
+        None => Ok((word, 1)),
+    }
+}
+
+pub fn number(word: &str) -> Result<u64, NoAnswer> {
+    word.parse::<u64>().or(Err(NoAnswer::Number))
+}
 
 /// The words from a place on; `_` is a space in a word.
 pub fn words_of(alloc: Global, words: &str, first: usize) -> Result<Vec<String>, AllocError> {
     let mut all = Vec::new(alloc);
     for word in words.split_whitespace().skip(first) {
-        let word = spaced(alloc, word)?;
+        let word = word.replace(alloc, '_', " ")?;
         all.push(word)?;
     }
     Ok(all)
-}
-
-fn spaced(alloc: Global, word: &str) -> Result<String, AllocError> {
-    let mut text = String::new(alloc);
-    for letter in word.chars() {
-        text.push(if letter == '_' { ' ' } else { letter })?;
-    }
-    Ok(text)
 }
 
 /// A script where a word `WORD*N` is the word N times.
 pub fn repeated(alloc: Global, lines: &str) -> Result<Vec<u8>, NoAnswer> {
     let mut script = Vec::new(alloc);
     for line in lines.lines() {
-        put_line(alloc, line, &mut script)?;
+        for word in line.split(' ') {
+            put_word(alloc, word, &mut script)?;
+        }
+        // In the place of the last space.
+        script.pop();
+        script.push(b'\n')?;
     }
     Ok(script)
 }
 
-fn put_line(alloc: Global, line: &str, out: &mut Vec<u8>) -> Result<(), NoAnswer> {
-    for word in line.split(' ') {
-        put_word(alloc, word, out)?;
-    }
-    // In the place of the last space.
-    out.pop();
-    Ok(out.push(b'\n')?)
-}
-
 /// The word each time that it stands, and a space behind it.
 fn put_word(alloc: Global, word: &str, out: &mut Vec<u8>) -> Result<(), NoAnswer> {
-    let (word, count) = word.split_once('*').unwrap_or((word, "1"));
-    let count = count.parse::<u64>()?;
+    let (word, count) = counted(word)?;
     let spaced = format!(in alloc; "{word} ")?;
     Ok(put_times(alloc, spaced.as_bytes(), count, out)?)
 }
 
 /// The lines that are set off, without the spaces before them.
 pub fn set_off(alloc: Global, page: &str) -> Result<String, AllocError> {
-    let mut lines = String::new(alloc);
+    let mut lines = Told::new(alloc);
     for line in page.lines() {
         if let Some(line) = line.strip_prefix("    ") {
-            write!(lines, "{line}\n")?;
+            lines.put(line);
+            lines.put("\n");
         }
     }
-    Ok(lines)
+    lines.text()
 }

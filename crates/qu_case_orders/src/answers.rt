@@ -1,13 +1,13 @@
 use super::{audits, points};
-use qu_case_forms::{Case, Named, NoAnswer};
+use qu_case_forms::{Case, Named, NoAnswer, Told};
 use std::alloc::Global;
 
 /// The answer of a case about the points or the premises of a run.
 pub fn answer_order(
     alloc: Global,
-    names: &[Named],
+    names: &[Named<'_>],
     case: &Case<'_>,
-    out: &mut String,
+    out: &mut Told,
 ) -> Result<(), NoAnswer> {
     match case.command {
         "events" => points::events(alloc, names, case.lines, out),

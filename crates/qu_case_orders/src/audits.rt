@@ -6,19 +6,19 @@ ghost use Rattle.qu_world.specs.Run.{IsRun, IsSetup};
 use super::points::points;
 use qu_audit::audit;
 use qu_base::{ClientId, List, NoMemory, Party};
-use qu_case_forms::{Case, Named, NoAnswer, party};
+use qu_case_forms::{Case, Named, NoAnswer, Told, party};
 use qu_case_runs::{make_lines, script_of, setup_and_lines, start};
 use qu_trace::{DecodedTrace, Premises, Setup, Trace};
 use qu_world::World;
-use std::alloc::{AllocError, Global};
+use std::alloc::Global;
 
 /// Makes the events of lines behind a setup, where a client that is named is faulty. Tells what each of them made,
 /// and the answer of the audit at the end.
 pub fn audited(
     alloc: Global,
-    names: &[Named],
+    names: &[Named<'_>],
     case: &Case<'_>,
-    out: &mut String,
+    out: &mut Told,
 ) -> Result<(), NoAnswer> {
     audited_run(alloc, names, case, out)?;
     Ok(())
@@ -27,20 +27,20 @@ pub fn audited(
 /// Tells what `audited` does, then the points of the run, and what the judge says of their order.
 pub fn ordered(
     alloc: Global,
-    names: &[Named],
+    names: &[Named<'_>],
     case: &Case<'_>,
-    out: &mut String,
+    out: &mut Told,
 ) -> Result<(), NoAnswer> {
     let trace = audited_run(alloc, names, case, out)?;
-    out.push_str("\n")?;
+    out.put("\n");
     Ok(points(alloc, &trace, out)?)
 }
 
 fn audited_run(
     alloc: Global,
-    names: &[Named],
+    names: &[Named<'_>],
     case: &Case<'_>,
-    out: &mut String,
+    out: &mut Told,
 ) -> Result<Trace, NoAnswer>
     ensures { IfOk result IsRun }
 {
@@ -48,7 +48,7 @@ fn audited_run(
     let world = world_where(alloc, setup, case.word(0))?;
     let trace = make_lines(alloc, names, setup, lines, world, out)?;
     let premises = premises_of(alloc, &trace)?;
-    put_premises(premises, out)?;
+    put_premises(premises, out);
     Ok(trace)
 }
 
@@ -94,10 +94,13 @@ fn premises_of(alloc: Global, trace: &Trace) -> Result<Premises, NoMemory>
     audit(alloc, &run)
 }
 
-fn put_premises(premises: Premises, out: &mut String) -> Result<(), AllocError> {
+fn put_premises(premises: Premises, out: &mut Told) {
     match premises {
-        Premises::Hold => out.push_str("premises hold"),
-        Premises::Forged { event } => write!(out, "premises forged {event}"),
-        Premises::Collide { first, second } => write!(out, "premises collide {first} {second}"),
+        Premises::Hold => out.put("premises hold"),
+        Premises::Forged { event } => out.put_number("premises forged ", event),
+        Premises::Collide { first, second } => {
+            out.put_number("premises collide ", first);
+            out.put_number(" ", second);
+        }
     }
 }

@@ -1,22 +1,24 @@
 //! The letters of a script's run.
 
 use super::scripts::{apply, run_text, trace_of, world_of};
-use qu_case_forms::{NoAnswer, put_hashed, put_party};
+use qu_case_forms::{NoAnswer, Told, put_hashed, put_party};
 use qu_frames::Letter;
 use qu_trace::{Entry, Event, Trace};
 use qu_world::World;
-use std::alloc::{AllocError, Global};
+use std::alloc::Global;
 
 /// A line for each letter of a script's run: number, event, sender, receiver, length, SHA-256.
-pub fn letters(alloc: Global, script: &[u8], out: &mut String) -> Result<(), NoAnswer> {
+pub fn letters(alloc: Global, script: &[u8], out: &mut Told) -> Result<(), NoAnswer> {
     let trace = run_text(alloc, script)?;
-    Ok(put_letters(&trace, out)?)
+    put_letters(&trace, out);
+    Ok(())
 }
 
 /// A line for each letter of the run in which letters are injected, as bytes, where the script delivers them.
-pub fn injected(alloc: Global, script: &[u8], out: &mut String) -> Result<(), NoAnswer> {
+pub fn injected(alloc: Global, script: &[u8], out: &mut Told) -> Result<(), NoAnswer> {
     let trace = run_injected(alloc, script)?;
-    Ok(put_letters(&trace, out)?)
+    put_letters(&trace, out);
+    Ok(())
 }
 
 fn run_injected(alloc: Global, script: &[u8]) -> Result<Trace, NoAnswer> {
@@ -47,35 +49,26 @@ fn in_place_of(alloc: Global, world: &World, event: &Event) -> Result<Event, NoA
     }
 }
 
-fn put_letters(trace: &Trace, out: &mut String) -> Result<(), AllocError> {
-    write!(out, "{} events", trace.entries.len())?;
+fn put_letters(trace: &Trace, out: &mut Told) {
+    out.put_number("", trace.entries.len() as u64);
+    out.put(" events");
     let mut number = 1u64;
     for (event, entry) in (1u64..).zip(trace.entries.as_slice()) {
-        number = put_sent(number, event, entry.letters.as_slice(), out)?;
+        number = put_sent(number, event, entry.letters.as_slice(), out);
     }
-    Ok(())
 }
 
 /// The letters of an event, and the number of the next letter.
-fn put_sent(
-    first: u64,
-    event: u64,
-    letters: &[Letter],
-    out: &mut String,
-) -> Result<u64, AllocError> {
+fn put_sent(first: u64, event: u64, letters: &[Letter], out: &mut Told) -> u64 {
     let mut number = first;
     for letter in letters {
-        write!(out, "\n{number} {event} ")?;
-        put_letter(letter, out)?;
+        out.put_number("\n", number);
+        out.put_number(" ", event);
+        put_party(" ", letter.from, out);
+        put_party(" ", letter.to, out);
+        out.put(" ");
+        put_hashed(letter.text.as_slice(), out);
         number = number.saturating_add(1);
     }
-    Ok(number)
-}
-
-fn put_letter(letter: &Letter, out: &mut String) -> Result<(), AllocError> {
-    put_party(letter.from, out)?;
-    out.push_str(" ")?;
-    put_party(letter.to, out)?;
-    out.push_str(" ")?;
-    put_hashed(letter.text.as_slice(), out)
+    number
 }

@@ -1,5 +1,5 @@
 use super::program::{self, Program};
-use qu_case_forms::{Case, Named, NoAnswer, answer_bytes, answer_generated, bytes_of};
+use qu_case_forms::{Case, Named, NoAnswer, Told, answer_bytes, answer_generated, bytes_of};
 use qu_case_orders::answer_order;
 use qu_case_runs::answer_run;
 use std::alloc::Global;
@@ -8,9 +8,9 @@ use std::rt::Files;
 /// The answer of a case.
 pub fn answer(
     rt: &(impl Files + AllocGlobal),
-    names: &[Named],
+    names: &[Named<'_>],
     case: &Case<'_>,
-    out: &mut String,
+    out: &mut Told,
 ) -> Result<(), NoAnswer> {
     match case.command {
         "example" => program::example(rt, case.name, out),
@@ -22,14 +22,20 @@ pub fn answer(
 /// The answer of a case that reads no file.
 fn answer_here(
     alloc: Global,
-    names: &[Named],
+    names: &[Named<'_>],
     case: &Case<'_>,
-    out: &mut String,
+    out: &mut Told,
 ) -> Result<(), NoAnswer> {
     match case.command {
-        "sim" => of_program(alloc, Program::Qu, "sim", case, out),
-        "qu" => of_program(alloc, Program::Qu, case.words, case, out),
-        "qu-letters" => of_program(alloc, Program::QuLetters, case.words, case, out),
+        "sim" => program::write(alloc, Program::Qu, "sim", case.lines.as_bytes(), out),
+        "qu" => program::write(alloc, Program::Qu, case.words, case.lines.as_bytes(), out),
+        "qu-letters" => program::write(
+            alloc,
+            Program::QuLetters,
+            case.words,
+            case.lines.as_bytes(),
+            out,
+        ),
         "spelled" => of_bytes(alloc, names, case, out),
         "pieces" => program::pieces(alloc, case, out),
         "generated" => answer_generated(alloc, case, out),
@@ -42,22 +48,10 @@ fn answer_here(
 /// What `qu` writes for a script that is given by its bytes.
 fn of_bytes(
     alloc: Global,
-    names: &[Named],
+    names: &[Named<'_>],
     case: &Case<'_>,
-    out: &mut String,
+    out: &mut Told,
 ) -> Result<(), NoAnswer> {
     let script = bytes_of(alloc, names, case.lines)?;
-    program::write(alloc, Program::Qu, case.words, script.as_slice(), out)?;
-    Ok(())
-}
-
-fn of_program(
-    alloc: Global,
-    program: Program,
-    words: &str,
-    case: &Case<'_>,
-    out: &mut String,
-) -> Result<(), NoAnswer> {
-    program::write(alloc, program, words, case.lines.as_bytes(), out)?;
-    Ok(())
+    program::write(alloc, Program::Qu, case.words, script.as_slice(), out)
 }

@@ -9,6 +9,7 @@ mod answers;
 mod program;
 mod topic;
 
+use qu_case_forms::parted;
 use std::rt::Files;
 use std::{fs, io};
 use topic::check_topic;
@@ -21,7 +22,7 @@ fn main(rt: HostRuntime) -> io::Result<()> {
 
 fn check_all(rt: &(impl Files + Print + AllocGlobal), names: &str, topics: &str) -> io::Result<()> {
     for line in topics.lines() {
-        let (topic, case) = line.split_once(' ').unwrap_or((line, ""));
+        let (topic, case) = parted(line, " ");
         check_topic(rt, names, topic, case)?;
     }
     Ok(())

@@ -1,7 +1,7 @@
 //! What the programs write, over sources and sinks in memory.
 
 use qu_base::List;
-use qu_case_forms::{Case, NoAnswer, repeated, set_off, words_of};
+use qu_case_forms::{Case, NoAnswer, Told, repeated, set_off, words_of};
 use qu_cli::qu_alone;
 use qu_cli_letters::qu_letters;
 use qu_io::{MemSink, MemSource};
@@ -15,14 +15,14 @@ pub enum Program {
     QuLetters,
 }
 
-/// What a program with these words writes for an input, and its status; whether it leaves a trace.
+/// What a program with these words writes for an input, and its status.
 pub fn write(
     alloc: Global,
     program: Program,
     words: &str,
     input: &[u8],
-    out: &mut String,
-) -> Result<bool, AllocError> {
+    out: &mut Told,
+) -> Result<(), NoAnswer> {
     let words = words_of(alloc, words, 0)?;
     let input = List::from(input.to_vec(alloc)?);
     // Short reads and writes, so that both are done in pieces.
@@ -35,21 +35,23 @@ pub fn write(
         &mut source,
         &mut sink,
         out,
-    )
+    );
+    Ok(())
 }
 
+/// Runs a program, and tells what it writes and its status. Whether it leaves a trace.
 fn run(
     alloc: Global,
     program: Program,
     words: &[String],
     source: &mut MemSource,
     sink: &mut MemSink,
-    out: &mut String,
-) -> Result<bool, AllocError> {
+    out: &mut Told,
+) -> bool {
     let (status, traced) = ended(alloc, program, words, source, sink);
-    put_text(alloc, sink.taken(), out)?;
-    write!(out, "status {status}")?;
-    Ok(traced)
+    out.put_bytes(alloc, sink.taken());
+    out.put_number("status ", u64::from(status));
+    traced
 }
 
 fn ended(
@@ -66,35 +68,42 @@ fn ended(
     (report.status, report.trace.is_some())
 }
 
-fn put_text(alloc: Global, text: &[u8], out: &mut String) -> Result<(), AllocError> {
-    let text = String::from_utf8_lossy(alloc, text)?;
-    out.push_str(text.as_str())
-}
-
 /// `pieces MOST READ MOST WRITE WORDS`: what `qu` writes where a read gives so many bytes at most and this read
 /// fails, and a write takes so many and that write fails; and whether there is a trace, the calls, and how many bytes
 /// are not read.
-pub fn pieces(alloc: Global, case: &Case<'_>, out: &mut String) -> Result<(), NoAnswer> {
+pub fn pieces(alloc: Global, case: &Case<'_>, out: &mut Told) -> Result<(), NoAnswer> {
     let source = source_of(alloc, case)?;
     let sink = sink_of(alloc, case)?;
     let words = words_of(alloc, case.words, 4)?;
-    Ok(run_pieces(alloc, words.as_slice(), source, sink, out)?)
+    run_pieces(alloc, words.as_slice(), source, sink, out);
+    Ok(())
 }
 
 fn source_of(alloc: Global, case: &Case<'_>) -> Result<MemSource, NoAnswer> {
-    let most = usize::from(case.short(0)?);
-    let failing = List::one(alloc, case.number(1)?)?;
-    let script = repeated(alloc, case.lines)?;
+    let (most, failing) = limits(alloc, case, 0, 1)?;
     if most == 0 {
         return Err(NoAnswer::Number);
     }
+    let script = repeated(alloc, case.lines)?;
     Ok(MemSource::new(List::from(script), most, failing))
 }
 
 fn sink_of(alloc: Global, case: &Case<'_>) -> Result<MemSink, NoAnswer> {
-    let most = usize::from(case.short(2)?);
-    let failing = List::one(alloc, case.number(3)?)?;
+    let (most, failing) = limits(alloc, case, 2, 3)?;
     Ok(MemSink::new(alloc, most, failing))
+}
+
+/// How many bytes go at once, and which call fails, by the words at these places of the case.
+fn limits(
+    alloc: Global,
+    case: &Case<'_>,
+    most: usize,
+    failing: usize,
+) -> Result<(usize, List<u64>), NoAnswer> {
+    match (case.short(most), case.number(failing)) {
+        (Ok(most), Ok(failing)) => Ok((usize::from(most), List::one(alloc, failing)?)),
+        _ => Err(NoAnswer::Number),
+    }
 }
 
 fn run_pieces(
@@ -102,27 +111,46 @@ fn run_pieces(
     words: &[String],
     mut source: MemSource,
     mut sink: MemSink,
-    out: &mut String,
-) -> Result<(), AllocError> {
-    let traced = run(alloc, Program::Qu, words, &mut source, &mut sink, out)?;
-    let trace = if traced { "a trace" } else { "no trace" };
-    let (reads, left) = (source.calls(), source.left().len());
-    write!(
-        out,
-        ", {trace}, reads {reads} left {left}, writes {}",
-        sink.calls()
-    )
+    out: &mut Told,
+) {
+    let traced = run(alloc, Program::Qu, words, &mut source, &mut sink, out);
+    out.put(if traced { ", a trace" } else { ", no trace" });
+    out.put_number(", reads ", source.calls());
+    out.put_number(" left ", source.left().len() as u64);
+    out.put_number(", writes ", sink.calls());
 }
 
 /// Whether the program writes for the script `NAME` what stands in `NAME.report`; else what it writes.
 pub fn example(
     rt: &(impl Files + AllocGlobal),
     name: &str,
-    out: &mut String,
+    out: &mut Told,
 ) -> Result<(), NoAnswer> {
-    let script = fs::read(rt, name)?;
+    let told = written(rt, Program::Qu, "sim", name)?;
     let report = report_of(rt, name)?;
-    Ok(compare(rt.alloc(), name, script.as_slice(), report.as_str(), out)?)
+    match told.strip_prefix(report.as_str()) {
+        Some(status) => {
+            out.put("as in ");
+            out.put(name);
+            out.put(".report, ");
+            out.put(status);
+        }
+        None => out.put(told.as_str()),
+    }
+    Ok(())
+}
+
+/// What a program with these words writes for the script of a file, and its status.
+fn written(
+    rt: &(impl Files + AllocGlobal),
+    program: Program,
+    words: &str,
+    path: &str,
+) -> Result<String, NoAnswer> {
+    let script = fs::read(rt, path)?;
+    let mut told = Told::new(rt.alloc());
+    write(rt.alloc(), program, words, script.as_slice(), &mut told)?;
+    told.text().or(Err(NoAnswer::NoMemory))
 }
 
 fn report_of(rt: &(impl Files + AllocGlobal), name: &str) -> Result<String, NoAnswer> {
@@ -131,45 +159,22 @@ fn report_of(rt: &(impl Files + AllocGlobal), name: &str) -> Result<String, NoAn
     Ok(fs::read_to_string(rt, path)?)
 }
 
-fn compare(
-    alloc: Global,
-    name: &str,
-    script: &[u8],
-    report: &str,
-    out: &mut String,
-) -> Result<(), AllocError> {
-    let mut told = String::new(alloc);
-    write(alloc, Program::Qu, "sim", script, &mut told)?;
-    match told.strip_prefix(report) {
-        Some(status) => write!(out, "as in {name}.report, {status}"),
-        None => out.push_str(told.as_str()),
-    }
-}
-
 /// Whether the lines of a page that are set off by four spaces are what `qu-letters` writes for the script that
 /// the case names; else what it writes.
 pub fn page(
     rt: &(impl Files + AllocGlobal),
     case: &Case<'_>,
-    out: &mut String,
+    out: &mut Told,
 ) -> Result<(), NoAnswer> {
-    let script = fs::read(rt, case.word(0))?;
+    let told = written(rt, Program::QuLetters, "", case.word(0))?;
     let page = fs::read_to_string(rt, case.name)?;
     let shown = set_off(rt.alloc(), page.as_str())?;
-    let mut told = String::new(rt.alloc());
-    write(
-        rt.alloc(),
-        Program::QuLetters,
-        "",
-        script.as_slice(),
-        &mut told,
-    )?;
-    Ok(put_shown(told.as_str(), shown.as_str(), out)?)
-}
-
-fn put_shown(told: &str, shown: &str, out: &mut String) -> Result<(), AllocError> {
-    match told.strip_prefix(shown) {
-        Some(status) => write!(out, "shows what is written, {status}"),
-        None => out.push_str(told),
+    match told.strip_prefix(shown.as_str()) {
+        Some(status) => {
+            out.put("shows what is written, ");
+            out.put(status);
+        }
+        None => out.put(told.as_str()),
     }
+    Ok(())
 }

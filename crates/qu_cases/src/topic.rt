@@ -1,7 +1,8 @@
 //! A topic: the cases of a file, each with its answer.
 
 use super::answers::answer;
-use qu_case_forms::{Case, Named, NoAnswer, put_difference, read_names};
+use qu_case_forms::{Case, Named, NoAnswer, Told, parted, put_difference, read_names};
+use std::alloc::{AllocError, Global};
 use std::rt::Files;
 use std::{fs, io};
 
@@ -13,10 +14,28 @@ pub fn check_topic(
     topic: &str,
     only: &str,
 ) -> io::Result<()> {
-    match read_topic(rt, topic) {
-        Ok(text) => check_text(rt, shared, topic, only, text.as_str()),
-        Err(error) => println!(rt; "{topic}: {}", error.words()),
+    let mut out = Told::new(rt.alloc());
+    if let Err(error) = check_file(rt, shared, topic, only, &mut out) {
+        out.put(topic);
+        out.put(": ");
+        out.put(error.words());
+        out.put("\n");
     }
+    rt.print(out.text()?)
+}
+
+fn check_file(
+    rt: &(impl Files + AllocGlobal),
+    shared: &str,
+    topic: &str,
+    only: &str,
+    out: &mut Told,
+) -> Result<(), NoAnswer> {
+    let text = read_topic(rt, topic)?;
+    let (head, cases) = parted(text.as_str(), "== ");
+    let names = names_of(rt.alloc(), shared, head)?;
+    check_cases(rt, names.as_slice(), topic, only, cases, out);
+    Ok(())
 }
 
 fn read_topic(rt: &(impl Files + AllocGlobal), topic: &str) -> Result<String, NoAnswer> {
@@ -25,121 +44,108 @@ fn read_topic(rt: &(impl Files + AllocGlobal), topic: &str) -> Result<String, No
     Ok(fs::read_to_string(rt, path)?)
 }
 
-fn check_text(
-    rt: &(impl Files + Print + AllocGlobal),
-    shared: &str,
-    topic: &str,
-    only: &str,
-    text: &str,
-) -> io::Result<()> {
-    let mut names = Vec::new(rt.alloc());
-    let (head, cases) = text.split_once("== ").unwrap_or((text, ""));
-    match add_names(rt, shared, head, &mut names) {
-        Ok(()) => check_cases(rt, names.as_slice(), topic, only, cases),
-        Err(error) => println!(rt; "{topic}: no names: {}", error.words()),
-    }
-}
-
 /// The names of bytes that all topics share, and those that stand at the head of this one.
-fn add_names(
-    rt: &impl AllocGlobal,
-    shared: &str,
-    head: &str,
-    names: &mut Vec<Named>,
-) -> Result<(), NoAnswer> {
-    read_names(rt.alloc(), shared, names)?;
-    read_names(rt.alloc(), head, names)
+fn names_of<'a>(alloc: Global, shared: &'a str, head: &'a str) -> Result<Vec<Named<'a>>, NoAnswer> {
+    let mut names = Vec::new(alloc);
+    read_names(alloc, shared, &mut names)?;
+    read_names(alloc, head, &mut names)?;
+    Ok(names)
 }
 
 fn check_cases(
-    rt: &(impl Files + Print + AllocGlobal),
-    names: &[Named],
+    rt: &(impl Files + AllocGlobal),
+    names: &[Named<'_>],
     topic: &str,
     only: &str,
     cases: &str,
-) -> io::Result<()> {
+    out: &mut Told,
+) {
     let (mut count, mut differing) = (0u64, 0u64);
     for text in cases.split("== ") {
-        if !is_as_wanted(rt, names, only, text)? {
+        if !is_as_wanted(rt, names, only, text, out) {
             differing = differing.saturating_add(1);
         }
         count = count.saturating_add(1);
     }
-    print_count(rt, topic, only, count, differing)
+    if only.is_empty() {
+        put_count(topic, count, differing, out);
+    }
 }
 
-fn print_count(
-    rt: &impl Print,
-    topic: &str,
-    only: &str,
-    count: u64,
-    differing: u64,
-) -> io::Result<()> {
-    if !only.is_empty() {
-        return Ok(());
-    }
+fn put_count(topic: &str, count: u64, differing: u64, out: &mut Told) {
+    out.put(topic);
+    out.put_number(": ", count);
     if differing == 0 {
-        return println!(rt; "{topic}: {count} cases, as stored");
+        return out.put(" cases, as stored\n");
     }
-    println!(rt; "{topic}: {count} cases, {differing} not as stored")
+    out.put_number(" cases, ", differing);
+    out.put(" not as stored\n");
 }
 
-/// Whether the answer of the case of a text is the stored one; prints where it differs. Where one name alone is asked
-/// for, prints the whole answer of the case with this name.
+/// Whether the answer of the case of a text is the stored one; tells where it differs. Where one name alone is asked
+/// for, tells the whole answer of the case with this name.
 fn is_as_wanted(
-    rt: &(impl Files + Print + AllocGlobal),
-    names: &[Named],
+    rt: &(impl Files + AllocGlobal),
+    names: &[Named<'_>],
     only: &str,
     text: &str,
-) -> io::Result<bool> {
+    out: &mut Told,
+) -> bool {
     let Some(case) = Case::of(text) else {
-        let line = text.lines().next().unwrap_or("");
-        println!(rt; "{line}: the reason or the answer is missing")?;
-        return Ok(false);
+        out.put(text.lines().next().unwrap_or(""));
+        out.put(": the reason or the answer is missing\n");
+        return false;
     };
-    if only.is_empty() {
-        return is_as_stored(rt, names, &case);
+    if !only.is_empty() && only != case.name {
+        return true;
     }
-    if case.name == only {
-        print_answer(rt, names, &case)?;
+    match answer_of(rt, names, &case) {
+        Ok(told) => compare(&case, told.as_str(), only, out),
+        Err(AllocError) => {
+            out.refuse();
+            false
+        }
     }
-    Ok(true)
 }
 
-fn print_answer(
-    rt: &(impl Files + Print + AllocGlobal),
-    names: &[Named],
-    case: &Case<'_>,
-) -> io::Result<()> {
-    let told = answer_of(rt, names, case)?;
-    println!(rt; "== {} {} {}\n{told}", case.name, case.command, case.words)
+/// Whether this is the stored answer; tells where it differs. Where one name alone is asked for, tells the whole.
+fn compare(case: &Case<'_>, told: &str, only: &str, out: &mut Told) -> bool {
+    if !only.is_empty() {
+        put_whole(case, told, out);
+        return true;
+    }
+    if told == case.answer {
+        return true;
+    }
+    put_difference(case, told, out);
+    out.put("\n");
+    false
 }
 
-fn is_as_stored(
-    rt: &(impl Files + Print + AllocGlobal),
-    names: &[Named],
-    case: &Case<'_>,
-) -> io::Result<bool> {
-    let told = answer_of(rt, names, case)?;
-    if told.as_str() == case.answer {
-        return Ok(true);
-    }
-    let mut difference = String::new(rt.alloc());
-    put_difference(case, told.as_str(), &mut difference)?;
-    println!(rt; "{difference}")?;
-    Ok(false)
+/// The line of a case, and its answer.
+fn put_whole(case: &Case<'_>, told: &str, out: &mut Told) {
+    out.put("== ");
+    out.put(case.name);
+    out.put(" ");
+    out.put(case.command);
+    out.put(" ");
+    out.put(case.words);
+    out.put("\n");
+    out.put(told);
+    out.put("\n");
 }
 
 /// The answer of a case, or why there is none.
 fn answer_of(
-    rt: &(impl Files + Print + AllocGlobal),
-    names: &[Named],
+    rt: &(impl Files + AllocGlobal),
+    names: &[Named<'_>],
     case: &Case<'_>,
-) -> io::Result<String> {
-    let mut told = String::new(rt.alloc());
+) -> Result<String, AllocError> {
+    let mut told = Told::new(rt.alloc());
     if let Err(error) = answer(rt, names, case, &mut told) {
-        told = String::from_str(rt.alloc(), "no answer: ")?;
-        told.push_str(error.words())?;
+        told = Told::new(rt.alloc());
+        told.put("no answer: ");
+        told.put(error.words());
     }
-    Ok(told)
+    told.text()
 }
