@@ -24,8 +24,9 @@ use Rattle.qu_replay.specs.Operations.{begun_operations}
 use Rattle.qu_replay.specs.Standing.{StandsWell, ReplicaStands}
 use Rattle.qu_replay.proofs.Growing.{push_of}
 use Rattle.qu_replay.proofs.Replayed.{rises_push}
+use Rattle.qu_keeping.specs.Kept.{kept_as}
 use Rattle.qu_lock.specs.Calls.{calls_by, AreFirstCalls, IsNextCall}
-use Rattle.qu_lock.specs.Locked.{ClientStands, kept_as}
+use Rattle.qu_lock.specs.Locked.{ClientStands}
 use Rattle.qu_lock.proofs.Calling.{first_calls_push}
 
 -- ---- the opening

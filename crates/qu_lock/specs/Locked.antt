@@ -1,13 +1,12 @@
--- What stands behind a lock, and the step that is taken there.
-use Rattle.std.specs.Prelude.{ℕ, List}
+-- What stands behind the lock of a client.
+use Rattle.std.specs.Prelude.{List}
 use Rattle.qu_base.specs.declared.party.ClientId.{ClientId}
 use Rattle.qu_base.specs.declared.party.Party.TheVariants as party
 use Rattle.qu_objects.specs.declared.op.Op.{Op}
 use Rattle.qu_client.specs.declared.state.ClientState.{ClientState}
 use Rattle.qu_trace.specs.declared.trace.Setup.{Setup}
-use Rattle.qu_frames.specs.declared.input.Input.{Input}
 use Rattle.qu_replay.specs.declared.kept_step.KeptStep.{KeptStep}
-use Rattle.qu_replay.specs.Steps.{Asks, Moved}
+use Rattle.qu_replay.specs.Steps.{Asks}
 use Rattle.qu_replay.specs.Standing.{StandsWell}
 use Rattle.qu_lock.specs.Calls.{calls_by, AreFirstCalls}
 
@@ -16,7 +15,3 @@ pub record ClientStands (setup : Setup) (calls : List (ClientId × Op)) (state :
     : Type 0 where
   pub well : StandsWell setup (party.Client state.me) (Asks state) steps
   pub first_calls : AreFirstCalls (calls_by state.me calls) steps
-
--- a step, as it is kept: its ticket, what was taken, and what that made
-abbrev pub kept_as : ℕ → Input → Moved → KeptStep
-kept_as ticket input made = record { ticket = ticket; input = input; letters = made.letters; ended = made.ended }

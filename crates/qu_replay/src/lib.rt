@@ -4,11 +4,9 @@
 mod entries;
 mod kept_step;
 mod law;
-mod merge;
 mod tickets;
 
 pub use entries::{EntriesFail, entries_of, first_unsent};
 pub use kept_step::KeptStep;
 pub use law::{kept_is_balanced, kept_is_run, told_is_run};
-pub use merge::by_ticket;
 pub use tickets::may_follow;

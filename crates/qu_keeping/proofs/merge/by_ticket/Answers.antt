@@ -8,7 +8,7 @@ use Rattle.qu_replay.specs.declared.kept_step.KeptStep.{KeptStep}
 use Rattle.qu_replay.specs.Merged.{AreByTicket, steps_of_ticket}
 use Rattle.qu_replay.proofs.Sorting.{sorted_of}
 use Rattle.qu_replay.proofs.Merging.{same_tickets, same_own}
-use Rattle.qu_replay.proofs.merge.by_ticket.Goals as goal
+use Rattle.qu_keeping.proofs.merge.by_ticket.Goals as goal
 
 abbrev ticket_of : Party × KeptStep → ℕ
 ticket_of x = x.1.ticket

@@ -3,8 +3,8 @@ ghost use Rattle.qu_base.specs.declared.party.Party.{Party as AParty};
 ghost use Rattle.qu_replay.specs.Replays.{RisesFrom, own_steps};
 ghost use Rattle.qu_replay.specs.Merged.{AreByTicket, steps_of_ticket};
 
-use crate::KeptStep;
 use qu_base::{List, NoMemory, Party};
+use qu_replay::KeptStep;
 
 /// The steps of all actors in the order of their tickets. Those of one ticket stand as they were handed in, so where
 /// that was actor by actor, they stand by actor; and an actor whose own tickets rise keeps the order of its steps.
