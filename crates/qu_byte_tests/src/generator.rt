@@ -1,5 +1,5 @@
 use qu_gen::gen_script;
-use qu_testing::holds;
+use qu_testing::all_hold;
 use std::test::Fail;
 
 #[test]
@@ -10,10 +10,12 @@ fn the_script_of_a_number(rt: HostRuntime) -> Result<(), Fail> {
 
 fn is_that_of_1(script: &[u8]) -> Result<(), Fail> {
     let text = str::from_utf8(script)?;
-    holds(text.lines().count() == 3252, "3,252 lines")?;
-    holds(text.lines().nth(1) == Some("seed 1"), "its number")?;
-    holds(
-        text.lines().nth(12) == Some("call 1 add 1 1"),
-        "the first call",
-    )
+    all_hold(&[
+        (text.lines().count() == 3252, "3,252 lines"),
+        (text.lines().nth(1) == Some("seed 1"), "its number"),
+        (
+            text.lines().nth(12) == Some("call 1 add 1 1"),
+            "the first call",
+        ),
+    ])
 }

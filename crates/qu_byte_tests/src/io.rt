@@ -1,6 +1,6 @@
 use qu_base::{List, NoMemory};
 use qu_io::{Failed, MemSink, MemSource, Sink, Source, StdSink, StdSource, SureSink, SureSource};
-use qu_testing::holds;
+use qu_testing::{all_hold, holds};
 use std::alloc::Global;
 use std::io;
 use std::io::{Error, ErrorKind, Read, Write};
@@ -51,12 +51,14 @@ fn a_source_gives_pieces(rt: HostRuntime) -> Result<(), Fail> {
 }
 
 fn read_pieces(source: &mut MemSource) -> Result<(), Fail> {
-    holds(gives(source, b"abc.", 3), "the first piece")?;
-    holds(gives(source, b"def.", 3), "the second piece")?;
-    holds(source.left() == b"gh".as_slice(), "what is left")?;
-    holds(gives(source, b"gh..", 2), "the last piece")?;
-    holds(gives(source, b"....", 0), "the end")?;
-    holds(source.calls() == 4 && source.faults() == 0, "four calls")
+    all_hold(&[
+        (gives(source, b"abc.", 3), "the first piece"),
+        (gives(source, b"def.", 3), "the second piece"),
+        (source.left() == b"gh".as_slice(), "what is left"),
+        (gives(source, b"gh..", 2), "the last piece"),
+        (gives(source, b"....", 0), "the end"),
+        (source.calls() == 4 && source.faults() == 0, "four calls"),
+    ])
 }
 
 #[test]
@@ -66,14 +68,16 @@ fn a_source_fails_at_its_first_call(rt: HostRuntime) -> Result<(), Fail> {
 }
 
 fn read_twice(source: &mut MemSource) -> Result<(), Fail> {
-    holds(fails(source), "the first call")?;
-    holds(source.calls() == 1 && source.faults() == 1, "one fault")?;
-    holds(source.left() == b"ab".as_slice(), "nothing is taken")?;
-    holds(gives(source, b"ab..", 2), "the second call")?;
-    holds(
-        source.calls() == 2 && source.faults() == 1,
-        "no other fault",
-    )
+    all_hold(&[
+        (fails(source), "the first call"),
+        (source.calls() == 1 && source.faults() == 1, "one fault"),
+        (source.left() == b"ab".as_slice(), "nothing is taken"),
+        (gives(source, b"ab..", 2), "the second call"),
+        (
+            source.calls() == 2 && source.faults() == 1,
+            "no other fault",
+        ),
+    ])
 }
 
 #[test]
@@ -83,28 +87,30 @@ fn a_sink_fails_at_its_third_call(rt: HostRuntime) -> Result<(), Fail> {
 }
 
 fn write_rests(sink: &mut MemSink) -> Result<(), Fail> {
-    holds(
-        sink.write("abcdefghijklmnopqrstuvwxy".as_bytes()) == Ok(10),
-        "the first call",
-    )?;
-    holds(
-        sink.write("klmnopqrstuvwxy".as_bytes()) == Ok(10),
-        "the second call",
-    )?;
-    holds(
-        sink.write("uvwxy".as_bytes()) == Err(Failed),
-        "the third call",
-    )?;
-    holds(sink.calls() == 3 && sink.faults() == 1, "one fault")?;
-    holds(
-        sink.taken() == "abcdefghijklmnopqrst".as_bytes(),
-        "two pieces",
-    )?;
-    holds(sink.write("uvwxy".as_bytes()) == Ok(5), "the fourth call")?;
-    holds(
-        sink.taken() == "abcdefghijklmnopqrstuvwxy".as_bytes(),
-        "all pieces",
-    )
+    all_hold(&[
+        (
+            sink.write("abcdefghijklmnopqrstuvwxy".as_bytes()) == Ok(10),
+            "the first call",
+        ),
+        (
+            sink.write("klmnopqrstuvwxy".as_bytes()) == Ok(10),
+            "the second call",
+        ),
+        (
+            sink.write("uvwxy".as_bytes()) == Err(Failed),
+            "the third call",
+        ),
+        (sink.calls() == 3 && sink.faults() == 1, "one fault"),
+        (
+            sink.taken() == "abcdefghijklmnopqrst".as_bytes(),
+            "two pieces",
+        ),
+        (sink.write("uvwxy".as_bytes()) == Ok(5), "the fourth call"),
+        (
+            sink.taken() == "abcdefghijklmnopqrstuvwxy".as_bytes(),
+            "all pieces",
+        ),
+    ])
 }
 
 #[test]
@@ -113,11 +119,13 @@ fn a_sink_takes_nothing(rt: HostRuntime) -> Result<(), Fail> {
 }
 
 fn write_in_vain(sink: &mut MemSink) -> Result<(), Fail> {
-    holds(sink.write(b"a") == Err(Failed), "a byte")?;
-    holds(sink.write(b"") == Ok(0), "no byte")?;
-    holds(sink.write(b"a") == Err(Failed), "a byte again")?;
-    holds(sink.calls() == 3 && sink.faults() == 2, "two faults")?;
-    holds(sink.taken().is_empty(), "nothing is taken")
+    all_hold(&[
+        (sink.write(b"a") == Err(Failed), "a byte"),
+        (sink.write(b"") == Ok(0), "no byte"),
+        (sink.write(b"a") == Err(Failed), "a byte again"),
+        (sink.calls() == 3 && sink.faults() == 2, "two faults"),
+        (sink.taken().is_empty(), "nothing is taken"),
+    ])
 }
 
 #[test]
@@ -126,57 +134,70 @@ fn a_sure_source_gives_all(rt: HostRuntime) -> Result<(), Fail> {
 }
 
 fn read_surely(source: &mut SureSource) -> Result<(), Fail> {
-    holds(gives(source, b"abcd", 4), "the first piece")?;
-    holds(gives(source, b"ef..", 2), "the last piece")?;
-    holds(gives(source, b"....", 0), "the end")
+    all_hold(&[
+        (gives(source, b"abcd", 4), "the first piece"),
+        (gives(source, b"ef..", 2), "the last piece"),
+        (gives(source, b"....", 0), "the end"),
+    ])
 }
 
 #[test]
 fn a_sure_sink_takes_all() -> Result<(), Fail> {
     let mut sink = SureSink::new();
-    holds(sink.write(b"abc") == Ok(3), "three bytes")?;
-    holds(sink.write(b"de") == Ok(2), "two bytes")?;
-    holds(sink.count() == 5, "five bytes")
+    all_hold(&[
+        (sink.write(b"abc") == Ok(3), "three bytes"),
+        (sink.write(b"de") == Ok(2), "two bytes"),
+        (sink.count() == 5, "five bytes"),
+    ])
 }
 
 #[test]
 fn std_reads() -> Result<(), Fail> {
     let mut source = StdSource::new(b"abcdef".as_slice());
-    holds(gives(&mut source, b"abcd", 4), "four bytes")?;
-    holds(source.faults() == 0, "no fault")?;
-    holds(source.into_inner() == b"ef".as_slice(), "what is left")
+    all_hold(&[
+        (gives(&mut source, b"abcd", 4), "four bytes"),
+        (source.faults() == 0, "no fault"),
+        (source.into_inner() == b"ef".as_slice(), "what is left"),
+    ])
 }
 
 #[test]
 fn std_writes(rt: HostRuntime) -> Result<(), Fail> {
     let mut sink = StdSink::new(Vec::new(rt.alloc()));
-    holds(sink.write(b"abc") == Ok(3), "three bytes")?;
-    holds(sink.write(b"") == Ok(0), "no byte")?;
-    holds(sink.write(b"de") == Ok(2), "two bytes")?;
-    holds(sink.faults() == 0, "no fault")?;
-    holds(
-        sink.into_inner().as_slice() == b"abcde".as_slice(),
-        "all bytes",
-    )
+    let are_written = [sink.write(b"abc"), sink.write(b""), sink.write(b"de")];
+    let is_sound = sink.faults() == 0;
+    let text = sink.into_inner();
+    all_hold(&[
+        (
+            are_written == [Ok(3), Ok(0), Ok(2)],
+            "three bytes, no byte, and two bytes",
+        ),
+        (is_sound, "no fault"),
+        (text.as_slice() == b"abcde".as_slice(), "all bytes"),
+    ])
 }
 
 #[test]
 fn std_errors_are_faults() -> Result<(), Fail> {
     let mut source = StdSource::new(Interrupted);
-    holds(fails(&mut source), "an interrupted read")?;
-    holds(fails(&mut source), "a second one")?;
-    holds(source.faults() == 2, "two faults")?;
     let mut sink = StdSink::new(Interrupted);
-    holds(sink.write(b"a") == Err(Failed), "an interrupted write")?;
-    holds(sink.faults() == 1, "one fault")
+    all_hold(&[
+        (fails(&mut source), "an interrupted read"),
+        (fails(&mut source), "a second one"),
+        (source.faults() == 2, "two faults"),
+        (sink.write(b"a") == Err(Failed), "an interrupted write"),
+        (sink.faults() == 1, "one fault"),
+    ])
 }
 
 #[test]
 fn a_full_writer_is_a_fault() -> Result<(), Fail> {
     let mut full = StdSink::new(io::Cursor::new([0u8; 2]));
-    holds(full.write(b"abc") == Ok(2), "two of three bytes")?;
-    holds(full.write(b"c") == Err(Failed), "no room")?;
-    holds(full.faults() == 1, "one fault")
+    all_hold(&[
+        (full.write(b"abc") == Ok(2), "two of three bytes"),
+        (full.write(b"c") == Err(Failed), "no room"),
+        (full.faults() == 1, "one fault"),
+    ])
 }
 
 #[test]

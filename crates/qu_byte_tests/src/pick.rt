@@ -1,6 +1,6 @@
 use qu_base::{Bounds, ClientId, ObjectId, ReplicaId};
 use qu_pick::{Backoff, preferred};
-use qu_testing::holds;
+use qu_testing::{all_hold, holds};
 use std::test::Fail;
 
 #[test]
@@ -16,20 +16,24 @@ fn a_quorum_is_asked_first() -> Result<(), Fail> {
 #[test]
 fn waits_of_the_first_client() -> Result<(), Fail> {
     let mut backoff = Backoff::seeded(7, ClientId(1));
-    holds(backoff.next(1) == 1, "after round 1")?;
-    holds(backoff.next(2) == 3, "after round 2")?;
-    holds(backoff.next(3) == 1, "after round 3")?;
-    holds(backoff.next(10) == 352, "after round 10")?;
-    holds(backoff.next(10) == 662, "after round 10 again")?;
-    holds(backoff.next(64) == 244, "after round 64")
+    all_hold(&[
+        (backoff.next(1) == 1, "after round 1"),
+        (backoff.next(2) == 3, "after round 2"),
+        (backoff.next(3) == 1, "after round 3"),
+        (backoff.next(10) == 352, "after round 10"),
+        (backoff.next(10) == 662, "after round 10 again"),
+        (backoff.next(64) == 244, "after round 64"),
+    ])
 }
 
 #[test]
 fn waits_of_the_second_client() -> Result<(), Fail> {
     let mut backoff = Backoff::seeded(7, ClientId(2));
-    holds(backoff.next(1) == 1, "after round 1")?;
-    holds(backoff.next(2) == 4, "after round 2")?;
-    holds(backoff.next(3) == 7, "after round 3")?;
-    holds(backoff.clone()?.next(10) == 838, "of a clone")?;
-    holds(backoff.next(10) == 838, "after round 10")
+    all_hold(&[
+        (backoff.next(1) == 1, "after round 1"),
+        (backoff.next(2) == 4, "after round 2"),
+        (backoff.next(3) == 7, "after round 3"),
+        (backoff.clone()?.next(10) == 838, "of a clone"),
+        (backoff.next(10) == 838, "after round 10"),
+    ])
 }

@@ -1,6 +1,6 @@
 use qu_base::{ClientId, Digest, ObjectId};
 use qu_stamp::{Candidate, Group, LAST_TIME, Stamp};
-use qu_testing::holds;
+use qu_testing::{all_hold, holds};
 use std::test::Fail;
 
 fn stamp_at(time: u64, barrier: bool, client: u16, act: Option<u8>, set: u8) -> Stamp {
@@ -44,20 +44,19 @@ fn stamps_compare_field_by_field() -> Result<(), Fail> {
     Ok(())
 }
 
-fn pair(object: u16, time: u64) -> (ObjectId, u64) {
-    (ObjectId(object), time)
-}
+/// The pairs of groups that rise: the first pair that differs counts, and else their number.
+const RISING_PAIRS: [&[(ObjectId, u64)]; 6] = [
+    &[],
+    &[(ObjectId(0), 1), (ObjectId(1), 9)],
+    &[(ObjectId(0), 1), (ObjectId(2), 1)],
+    &[(ObjectId(0), 1), (ObjectId(2), 1), (ObjectId(3), 1)],
+    &[(ObjectId(0), 1), (ObjectId(2), 2)],
+    &[(ObjectId(1), 1), (ObjectId(2), 1)],
+];
 
-/// Groups that rise: the first pair that differs counts, and else their number.
-fn rising_groups() -> Option<[Group; 6]> {
-    Some([
-        Group::none(),
-        Group::new(&[pair(0, 1), pair(1, 9)])?,
-        Group::new(&[pair(0, 1), pair(2, 1)])?,
-        Group::new(&[pair(0, 1), pair(2, 1), pair(3, 1)])?,
-        Group::new(&[pair(0, 1), pair(2, 2)])?,
-        Group::new(&[pair(1, 1), pair(2, 1)])?,
-    ])
+/// The group of these pairs, or none.
+fn group(pairs: &[(ObjectId, u64)]) -> Group {
+    Group::new(pairs).unwrap_or(Group::none())
 }
 
 fn candidate(stamp: Stamp, prior: Stamp, group: Group) -> Candidate {
@@ -72,54 +71,64 @@ fn candidate(stamp: Stamp, prior: Stamp, group: Group) -> Candidate {
 fn candidates_compare_by_stamp_then_prior_then_group() -> Result<(), Fail> {
     let low = stamp_at(1, false, 0, None, 0);
     let high = stamp_at(2, false, 0, None, 0);
-    let groups = rising_groups().ok_or("a group")?;
-    let (least, greatest) = (groups[0], groups[5]);
-    holds(
-        candidate(low, high, greatest).is_before(&candidate(high, low, least)),
-        "by the stamp",
-    )?;
-    holds(
-        candidate(low, low, greatest).is_before(&candidate(low, high, least)),
-        "by the prior",
-    )?;
-    for (place, group) in groups.iter().enumerate() {
-        for (other_place, other) in groups.iter().enumerate() {
-            let first = candidate(low, low, *group);
-            let second = candidate(low, low, *other);
-            holds(
-                first.is_before(&second) == (place < other_place),
-                "by the group",
-            )?;
-            holds((first == second) == (place == other_place), "equal groups")?;
+    let greatest = group(RISING_PAIRS[5]);
+    all_hold(&[
+        (
+            candidate(low, high, greatest).is_before(&candidate(high, low, Group::none())),
+            "by the stamp",
+        ),
+        (
+            candidate(low, low, greatest).is_before(&candidate(low, high, Group::none())),
+            "by the prior",
+        ),
+        (are_before_by_group(low), "by the group"),
+    ])
+}
+
+/// Whether candidates that differ in their groups alone stand as their groups do, and are equal where these are.
+fn are_before_by_group(stamp: Stamp) -> bool {
+    for (place, pairs) in RISING_PAIRS.iter().enumerate() {
+        for (other_place, others) in RISING_PAIRS.iter().enumerate() {
+            let first = candidate(stamp, stamp, group(*pairs));
+            let second = candidate(stamp, stamp, group(*others));
+            if first.is_before(&second) != (place < other_place)
+                || (first == second) != (place == other_place)
+            {
+                return false;
+            }
         }
     }
-    Ok(())
+    true
 }
+
+const FIVE_PAIRS: [(ObjectId, u64); 5] = [
+    (ObjectId(0), 1),
+    (ObjectId(1), 1),
+    (ObjectId(2), 1),
+    (ObjectId(62), 1),
+    (ObjectId(63), LAST_TIME),
+];
+
+/// What cannot stand behind object 5: no later object, none at all, and times out of range.
+const BAD_PAIRS: [(ObjectId, u64); 5] = [
+    (ObjectId(5), 2),
+    (ObjectId(4), 2),
+    (ObjectId(64), 2),
+    (ObjectId(6), 0),
+    (ObjectId(6), LAST_TIME + 1),
+];
 
 #[test]
 fn a_group_has_no_pair_or_two_to_four() -> Result<(), Fail> {
-    let all = [
-        pair(0, 1),
-        pair(1, 1),
-        pair(2, 1),
-        pair(62, 1),
-        pair(63, LAST_TIME),
-    ];
     for count in 0..6 {
         holds(
-            Group::new(&all[5 - count..]).is_some() == (count != 1 && count != 5),
+            Group::new(&FIVE_PAIRS[5 - count..]).is_some() == (count != 1 && count != 5),
             "by the number of pairs",
         )?;
     }
-    for bad in [
-        pair(5, 2),
-        pair(4, 2),
-        pair(64, 2),
-        pair(6, 0),
-        pair(6, LAST_TIME + 1),
-    ] {
+    for bad in &BAD_PAIRS {
         holds(
-            Group::new(&[pair(5, 1), bad]).is_none(),
+            Group::new(&[(ObjectId(5), 1), *bad]).is_none(),
             "by the second pair",
         )?;
     }
@@ -129,12 +138,14 @@ fn a_group_has_no_pair_or_two_to_four() -> Result<(), Fail> {
 #[test]
 fn a_member_has_the_time_that_is_listed() -> Result<(), Fail> {
     let own = stamp_at(2, false, 7, Some(1), 3);
-    let group = Group::new(&[pair(1, 2), pair(4, 9)]).ok_or("two pairs")?;
+    let group = group(&[(ObjectId(1), 2), (ObjectId(4), 9)]);
     let joint = candidate(own, Stamp::opening(), group);
-    holds(joint.member(ObjectId(1)) == Some(own), "on its own object")?;
-    holds(
-        joint.member(ObjectId(4)) == Some(stamp_at(9, false, 7, Some(1), 3)),
-        "on the other one",
-    )?;
-    holds(joint.member(ObjectId(2)).is_none(), "on no third one")
+    all_hold(&[
+        (joint.member(ObjectId(1)) == Some(own), "on its own object"),
+        (
+            joint.member(ObjectId(4)) == Some(stamp_at(9, false, 7, Some(1), 3)),
+            "on the other one",
+        ),
+        (joint.member(ObjectId(2)).is_none(), "on no third one"),
+    ])
 }

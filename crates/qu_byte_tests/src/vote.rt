@@ -1,43 +1,43 @@
-ghost use Rattle.std.specs.Prelude.{◌<◌};
-
 use qu_base::ReplicaId;
-use qu_testing::holds;
+use qu_testing::{all_hold, holds};
 use qu_vote::{Tally, VoteFail};
+use std::alloc::Global;
 use std::test::Fail;
 
-fn vote(tally: &mut Tally<i32>, replica: u8, value: i32) -> Result<(), Fail>
-    requires { replica < 16 }
-{
-    Ok(tally.take(ReplicaId(replica), value)?)
+/// Replica 5 answers 7, and replicas 0 and 15 answer 9: whether these votes are counted.
+fn three_votes(tally: &mut Tally<i32>) -> bool {
+    tally.take(ReplicaId(5), 7).is_ok()
+        && tally.take(ReplicaId(0), 9).is_ok()
+        && tally.take(ReplicaId(15), 9).is_ok()
 }
 
-/// Replica 5 answers 7, and replicas 0 and 15 answer 9.
-fn three_votes(tally: &mut Tally<i32>) -> Result<(), Fail> {
-    vote(tally, 5, 7)?;
-    vote(tally, 0, 9)?;
-    vote(tally, 15, 9)
+fn is_best(tally: &Tally<i32>) -> bool {
+    match tally.best() {
+        Some((value, count)) => *value == 9 && count == 2,
+        None => false,
+    }
 }
 
-fn counts(tally: &Tally<i32>) -> Result<(), Fail> {
-    holds(tally.count(&9) == 2, "two for 9")?;
-    holds(
-        tally.count(&7) == 1 && tally.count(&8) == 0,
-        "one for 7, none for 8",
-    )?;
-    let best = tally.best().ok_or("no best")?;
-    holds(*best.0 == 9 && best.1 == 2, "9 is the best")
+/// Three votes, and a second one of a replica that has voted.
+fn votes(tally: &mut Tally<i32>) -> Result<(), Fail> {
+    all_hold(&[
+        (three_votes(tally), "three votes"),
+        (
+            tally.take(ReplicaId(5), 9).err() == Some(VoteFail::Twice(ReplicaId(5))),
+            "a second vote",
+        ),
+        (tally.count(&9) == 2, "two for 9"),
+        (
+            tally.count(&7) == 1 && tally.count(&8) == 0,
+            "one for 7, none for 8",
+        ),
+        (is_best(tally), "9 is the best"),
+    ])
 }
 
 #[test]
 fn each_replica_is_counted_once(rt: HostRuntime) -> Result<(), Fail> {
-    let mut tally = Tally::new(rt.alloc());
-    three_votes(&mut tally)?;
-    let refused = tally.take(ReplicaId(5), 9).err();
-    holds(
-        refused == Some(VoteFail::Twice(ReplicaId(5))),
-        "a second vote",
-    )?;
-    counts(&tally)
+    votes(&mut Tally::new(rt.alloc()))
 }
 
 #[test]
@@ -50,12 +50,19 @@ fn a_second_vote_has_its_number() -> Result<(), Fail> {
 
 #[test]
 fn a_tally_is_copied(rt: HostRuntime) -> Result<(), Fail> {
-    let mut tally = Tally::new(rt.alloc());
-    holds(tally.best().is_none(), "no best of none")?;
-    three_votes(&mut tally)?;
-    let copy = tally.copy(rt.alloc())?;
-    holds(
-        copy.has(ReplicaId(15)) && !copy.has(ReplicaId(1)),
-        "who voted",
-    )
+    copies(rt.alloc(), &mut Tally::new(rt.alloc()))
+}
+
+fn copies(alloc: Global, tally: &mut Tally<i32>) -> Result<(), Fail> {
+    let has_no_best = tally.best().is_none();
+    let are_counted = three_votes(tally);
+    let copy = tally.copy(alloc)?;
+    all_hold(&[
+        (has_no_best, "no best of none"),
+        (are_counted, "three votes"),
+        (
+            copy.has(ReplicaId(15)) && !copy.has(ReplicaId(1)),
+            "who voted",
+        ),
+    ])
 }

@@ -2,6 +2,7 @@
 #![tactic(auto)]
 
 ghost use Rattle.std.specs.Prelude.{◌≡◌, is_ok, IfOk};
+ghost use Rattle.std.specs.List.{list_all};
 
 use qu_base::{List, NoMemory};
 use std::alloc::Global;
@@ -12,6 +13,16 @@ pub fn holds(fact: bool, words: &'static str) -> Result<(), Fail>
     ensures { is_ok result ≡ fact }
 {
     if fact { Ok(()) } else { Err(words.into()) }
+}
+
+/// Fails with the words of the first fact that does not hold.
+pub fn all_hold(facts: &[(bool, &'static str)]) -> Result<(), Fail>
+    ensures { is_ok result ≡ list_all (λ fact. fact.0) facts.now }
+{
+    for (fact, words) in facts {
+        holds(*fact, *words)?;
+    }
+    Ok(())
 }
 
 /// The bytes of a text.
