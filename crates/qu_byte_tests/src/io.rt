@@ -1,14 +1,9 @@
-use qu_base::{List, NoMemory};
+use qu_base::List;
 use qu_io::{Failed, MemSink, MemSource, Sink, Source, StdSink, StdSource, SureSink, SureSource};
-use qu_testing::{all_hold, holds};
-use std::alloc::Global;
+use qu_testing::{all_hold, bytes_of, holds};
 use std::io;
 use std::io::{Error, ErrorKind, Read, Write};
 use std::test::Fail;
-
-fn bytes(alloc: Global, text: &str) -> Result<List<u8>, NoMemory> {
-    List::from_clones(alloc, text.as_bytes())
-}
 
 /// Whether a read into four dots leaves these bytes, and says that it gave so many.
 fn gives<S: Source>(source: &mut S, wanted: &[u8; 4], count: usize) -> bool {
@@ -46,7 +41,7 @@ impl Write for Interrupted {
 
 #[test]
 fn a_source_gives_pieces(rt: HostRuntime) -> Result<(), Fail> {
-    let text = bytes(rt.alloc(), "abcdefgh")?;
+    let text = bytes_of(rt.alloc(), "abcdefgh")?;
     read_pieces(&mut MemSource::new(text, 3, List::new(rt.alloc())))
 }
 
@@ -64,7 +59,7 @@ fn read_pieces(source: &mut MemSource) -> Result<(), Fail> {
 #[test]
 fn a_source_fails_at_its_first_call(rt: HostRuntime) -> Result<(), Fail> {
     let failing = List::one(rt.alloc(), 1)?;
-    read_twice(&mut MemSource::new(bytes(rt.alloc(), "ab")?, 9, failing))
+    read_twice(&mut MemSource::new(bytes_of(rt.alloc(), "ab")?, 9, failing))
 }
 
 fn read_twice(source: &mut MemSource) -> Result<(), Fail> {
@@ -130,7 +125,7 @@ fn write_in_vain(sink: &mut MemSink) -> Result<(), Fail> {
 
 #[test]
 fn a_sure_source_gives_all(rt: HostRuntime) -> Result<(), Fail> {
-    read_surely(&mut SureSource::new(bytes(rt.alloc(), "abcdef")?))
+    read_surely(&mut SureSource::new(bytes_of(rt.alloc(), "abcdef")?))
 }
 
 fn read_surely(source: &mut SureSource) -> Result<(), Fail> {
