@@ -1,37 +1,15 @@
-ghost use Rattle.std.specs.Prelude.{◌≡◌, ◌++◌, length, map, OnOk, IsTrue};
+ghost use Rattle.std.specs.Prelude.{◌≡◌, ◌++◌, length, map, OnOk};
 ghost use Rattle.std.specs.List.{flat_map};
 ghost use Rattle.qu_trace.specs.Faulty.{is_same};
 ghost use Rattle.qu_replay.specs.declared.kept_step.KeptStep.{KeptStep as AStep};
-ghost use Rattle.qu_gather.specs.Gathered.{HasEnded, HaveEnded, steps_of_replica, steps_of_client, ReplicasStand, ClientsStand};
+ghost use Rattle.qu_gather.specs.Gathered.{steps_of_replica, steps_of_client, ReplicasStand, ClientsStand};
 ghost use Rattle.qu_gather.specs.Torn.{first_moved, replica_locks, client_locks, replicas_behind, clients_behind};
 
 use qu_base::{ClientId, List, NoMemory, Party, ReplicaId};
 use qu_client::Client;
 use qu_lock::{Kept, RunName};
-use qu_objects::Op;
 use qu_replay::KeptStep;
 use qu_replica::Replica;
-
-/// Whether each of these clients began all its calls, and none is under way, where these are the calls of the run.
-pub fn have_ended<N: RunName>(calls: &[(ClientId, Op)], held: &[Kept<Client, N>]) -> bool
-    requires { calls.now ≡ N.calls }
-    ensures { IsTrue result → HaveEnded N.calls held.now }
-{
-    for kept in held {
-        if !has_ended(calls, kept) {
-            return false;
-        }
-    }
-    true
-}
-
-/// Whether a client began all its calls, and none is under way.
-fn has_ended<N: RunName>(calls: &[(ClientId, Op)], kept: &Kept<Client, N>) -> bool
-    requires { calls.now ≡ N.calls }
-    ensures { IsTrue result → HasEnded N.calls kept.now }
-{
-    !kept.actor().busy() && kept.next_call(calls).is_none()
-}
 
 /// The first of these replicas that is another one than the one that is named, with both names.
 pub fn moved_replica<N: RunName>(

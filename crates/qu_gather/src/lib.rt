@@ -1,13 +1,12 @@
-//! What the actors of a run on threads kept, gathered into one run.
+//! What a run on threads is, and why what its actors kept is one.
 #![tactic(auto)]
 
 mod correct;
-mod ending;
 mod held;
 mod ticks;
 mod torn;
 
 pub use correct::{correct_clients, correct_replicas};
-pub use ending::{gather, tell};
-pub use held::have_ended;
+pub use held::{moved_client, moved_replica, put_clients, put_replicas};
+pub use ticks::late_letter;
 pub use torn::{LiveFail, Torn};

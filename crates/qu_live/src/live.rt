@@ -4,9 +4,10 @@ ghost use Rattle.qu_gather.specs.Live.{IsLive, AreCallsOf};
 
 use crate::Gate;
 use crate::actors::Actors;
+use crate::ending::gather;
 use crate::rounds::run_rounds;
 use qu_base::ClientId;
-use qu_gather::{LiveFail, gather};
+use qu_gather::LiveFail;
 use qu_lock::RunName;
 use qu_objects::Op;
 use qu_post::Post;

@@ -1,32 +1,30 @@
-ghost use Rattle.std.specs.Prelude.{◌≡◌, ℕ, [], length, map, None, IfOk, IfErr, OnOk};
+ghost use Rattle.std.specs.Prelude.{◌≡◌, ℕ, length, map, IfOk, IfErr, OnOk};
 ghost use Rattle.qu_base.specs.Bounds.{replicas};
-ghost use Rattle.qu_world.specs.Run.{IsSetup};
-ghost use Rattle.qu_replay.specs.Told.{AreTold};
 ghost use Rattle.qu_base.specs.declared.party.Party.{Party as AParty};
+ghost use Rattle.qu_world.specs.Run.{IsSetup};
 ghost use Rattle.qu_journal.specs.Journal.{as_kept};
 ghost use Rattle.qu_replay.specs.Replays.{RisesFrom, own_steps};
-ghost use Rattle.qu_replay.specs.Merged.{AreByTicket, merged_entries, steps_of_ticket};
-ghost use Rattle.qu_replay.specs.Entries.{WereSentBefore};
+ghost use Rattle.qu_replay.specs.Merged.{AreByTicket, steps_of_ticket};
 ghost use Rattle.qu_gather.specs.Correct.{correct_replicas, correct_clients};
 ghost use Rattle.qu_gather.specs.Live.{IsLive, AreCallsOf};
 ghost use Rattle.qu_gather.specs.Gathered.{all_steps, HaveEnded, AreTheirOwn, ReplicasStand, ClientsStand};
-ghost use Rattle.qu_gather.specs.Torn.{moved_actor, TellsMoved, IsOfLocks, IsUntold, IsEarly, TellsSteps, TellsEarly};
-ghost use Rattle.qu_gather.specs.Ticks.{late_letter};
+ghost use Rattle.qu_gather.specs.Torn.{moved_actor, TellsMoved, IsOfLocks, TellsSteps, TellsEarly};
 
-use crate::correct::{correct_clients, correct_replicas};
-use crate::held::{moved_client, moved_replica, put_clients, put_replicas};
-use crate::ticks::late_letter;
-use crate::{LiveFail, Torn};
 use qu_base::{ClientId, List, NoMemory, Party};
 use qu_client::Client;
-use qu_journal::{first_unlike, steps_filed, unlike_pair, unsent_pair};
+use qu_gather::{
+    LiveFail, Torn, correct_clients, correct_replicas, moved_client, moved_replica, put_clients,
+    put_replicas,
+};
+use qu_journal::steps_filed;
 use qu_keeping::by_ticket;
 use qu_lock::{Kept, RunName};
 use qu_objects::Op;
 use qu_post::Filed;
-use qu_replay::{EntriesFail, KeptStep, entries_of};
+use qu_replay::KeptStep;
 use qu_replica::Replica;
-use qu_trace::{Entry, Setup, Trace};
+use qu_trace::{Setup, Trace};
+use qu_whole::{tell, tick_in_time};
 use std::alloc::Global;
 
 /// What stood behind the locks of a run of this setup with these calls, as one run: all kept steps in the order of
@@ -114,43 +112,4 @@ fn in_order(
 {
     let filed = steps_filed(alloc, journal)?;
     Ok((by_ticket(kept)?, by_ticket(filed)?))
-}
-
-/// The entries that tell kept steps, where these are the filed ones, both in the order of tickets, and each takes what
-/// was sent to its actor. What does not fit is taken out of the lists, so that no memory is needed to tell it: want of
-/// memory is told only where all fits.
-pub fn tell(
-    alloc: Global,
-    kept: List<(Party, KeptStep)>,
-    filed: List<(Party, KeptStep)>,
-) -> Result<List<Entry>, LiveFail>
-    ensures told { IfOk result (λ entries. AreTold [] kept entries) }
-    ensures entries { IfOk result (λ entries. entries ≡ merged_entries kept) }
-    ensures sent { IfOk result (λ entries. WereSentBefore [] kept) }
-    ensures filed { IfOk result (λ entries. kept ≡ filed) }
-    ensures untold { IfErr result (IsUntold kept filed) }
-{
-    if let Some(at) = first_unlike(kept.as_slice(), filed.as_slice()) {
-        let (kept, filed) = unlike_pair(kept, filed, at);
-        return Err(LiveFail::Torn(Torn::Steps { kept, filed }));
-    }
-    match entries_of(alloc, kept.as_slice()) {
-        Ok(entries) => Ok(entries),
-        Err(EntriesFail::Unsent(at)) => {
-            let (kept, filed) = unsent_pair(kept, filed, at);
-            Err(LiveFail::Torn(Torn::Steps { kept, filed }))
-        }
-        Err(EntriesFail::NoMemory) => Err(LiveFail::NoMemory),
-    }
-}
-
-/// Whether no client ticked before a letter that it waited for was delivered; else the first such letter.
-fn tick_in_time(alloc: Global, setup: &Setup, entries: &[Entry]) -> Result<(), LiveFail>
-    ensures in_time { OnOk result (late_letter setup.now [] entries.now ≡ None) }
-    ensures early { IfErr result (IsEarly setup.now entries.now) }
-{
-    match late_letter(alloc, setup, entries)? {
-        Some((client, letter)) => Err(LiveFail::Torn(Torn::Early { client, letter })),
-        None => Ok(()),
-    }
 }

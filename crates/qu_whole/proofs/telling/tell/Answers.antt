@@ -5,7 +5,7 @@ use Rattle.qu_replay.specs.declared.kept_step.KeptStep.{KeptStep}
 use Rattle.qu_replay.specs.Entries.{IsFirstUnsent, IsEntriesFail, WereSentBefore}
 use Rattle.qu_journal.specs.Journal.{as_filed}
 use Rattle.qu_gather.proofs.Telling.{pair_takes}
-use Rattle.qu_gather.proofs.ending.tell.Goals as goal
+use Rattle.qu_whole.proofs.telling.tell.Goals as goal
 
 pub returns-in-Err-Unsent-clause-untold : goal.returns-in-Err-Unsent-clause-untold
 returns-in-Err-Unsent-clause-untold c =

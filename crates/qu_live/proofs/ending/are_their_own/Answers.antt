@@ -6,7 +6,7 @@ use Rattle.qu_base.specs.Bounds.{replicas}
 use Rattle.qu_gather.specs.Correct.{correct_replicas, correct_clients}
 use Rattle.qu_gather.specs.Torn.{first_moved, replica_locks, client_locks, replicas_behind, clients_behind}
 use Rattle.qu_gather.proofs.Moving.{all_moved, or_none, replicas_are, clients_are}
-use Rattle.qu_gather.proofs.ending.are_their_own.Goals as goal
+use Rattle.qu_live.proofs.ending.are_their_own.Goals as goal
 
 pub returns-in-Some-clause-moved : goal.returns-in-Some-clause-moved
 returns-in-Some-clause-moved g c =

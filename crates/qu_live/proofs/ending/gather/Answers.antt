@@ -4,7 +4,7 @@ use Rattle.qu_gather.specs.Gathered.{all_steps}
 use Rattle.qu_gather.specs.Ticks.{late_letter}
 use Rattle.qu_gather.proofs.Gathering.{gathered_run}
 use Rattle.qu_gather.proofs.Telling.{in_order, whole, tells_untold, tells_early, tells_letter}
-use Rattle.qu_gather.proofs.ending.gather.Goals as goal
+use Rattle.qu_live.proofs.ending.gather.Goals as goal
 
 pub returns-clause-live : goal.returns-clause-live
 returns-clause-live g c =
