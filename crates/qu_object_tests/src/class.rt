@@ -1,54 +1,13 @@
-use super::facts::all_hold;
-use super::history::{OBJECT, one_object, put, update_by};
-use qu_base::{Bounds, ClientId, Digest, List};
+use super::history::{Alike, Made, OBJECT, barrier, sets_of, update_by};
+use Made::{Barrier, Update};
+use qu_base::Bounds;
 use qu_class::{Class, classify};
 use qu_history::Sets;
 use qu_plan::{evidence, plan_copy};
-use qu_stamp::{Candidate, Group, Stamp};
+use qu_stamp::{Candidate, Stamp};
 use qu_testing::holds;
 use std::alloc::Global;
 use std::test::Fail;
-
-/// A barrier above the updates, which rests upon that of client 1.
-fn barrier() -> Candidate {
-    Candidate {
-        stamp: Stamp {
-            time: 2,
-            barrier: true,
-            client: ClientId(1),
-            act: None,
-            set: Digest([2; 32]),
-        },
-        prior: update_by(1).stamp,
-        group: Group::none(),
-    }
-}
-
-/// One object with so many histories with the opening candidate alone, with the first update above it, and with the
-/// second.
-fn updated(alloc: Global, opening: u8, first: u8, second: u8) -> Result<Sets, Fail> {
-    let mut entries = List::new(alloc);
-    put(alloc, &mut entries, opening, &[])?;
-    put(alloc, &mut entries, first, &[update_by(1)])?;
-    put(alloc, &mut entries, second, &[update_by(2)])?;
-    one_object(alloc, entries)
-}
-
-/// One object with so many histories with the opening candidate alone, with the barrier above it, with the barrier
-/// above the first update, and with the barrier above the second.
-fn barred(alloc: Global, opening: u8, bare: u8, first: u8, second: u8) -> Result<Sets, Fail> {
-    let mut entries = List::new(alloc);
-    put(alloc, &mut entries, opening, &[])?;
-    put(alloc, &mut entries, bare, &[barrier()])?;
-    put(alloc, &mut entries, first, &[update_by(1), barrier()])?;
-    put(alloc, &mut entries, second, &[update_by(2), barrier()])?;
-    one_object(alloc, entries)
-}
-
-/// The class of the object where one of six replicas may lie, of which a quorum has to be shown.
-fn class_of_six(sets: &Sets) -> Result<Class, Fail> {
-    class_in(sets, &Bounds::new(1)?)
-}
 
 /// The class of the object, of which a quorum has to be shown.
 pub(super) fn class_in(sets: &Sets, bounds: &Bounds) -> Result<Class, Fail> {
@@ -56,66 +15,112 @@ pub(super) fn class_in(sets: &Sets, bounds: &Bounds) -> Result<Class, Fail> {
     Ok(classify(sets, OBJECT, bounds))
 }
 
-fn updated_class(alloc: Global, opening: u8, first: u8, second: u8) -> Result<Class, Fail> {
-    class_of_six(&updated(alloc, opening, first, second)?)
+/// Fails with the words of the first histories, those of a quorum of six replicas, of which the object is not of this
+/// class.
+fn are_of_class(alloc: Global, cases: &[(&'static str, &[Alike], Class)]) -> Result<(), Fail> {
+    let bounds = Bounds::new(1)?;
+    for (words, all, class) in cases {
+        let sets = sets_of(alloc, *all)?;
+        holds(class_in(&sets, &bounds)? == *class, *words)?;
+    }
+    Ok(())
 }
+
+const FIVE_OPENINGS: [Alike; 1] = [(5, &[])];
+
+const FIVE_OF_THE_FIRST: [Alike; 2] = [(1, &[]), (5, &[Update(1)])];
+
+const FOUR_OF_THE_FIRST: [Alike; 2] = [(1, &[]), (4, &[Update(1)])];
+
+const THREE_OF_EACH: [Alike; 2] = [(3, &[Update(1)]), (3, &[Update(2)])];
 
 #[test]
 fn classes_without_barriers(rt: HostRuntime) -> Result<(), Fail> {
-    let alloc = rt.alloc();
-    let opening = Class::Method(Candidate::opening());
-    let updated = Class::Method(update_by(1));
-    let first = Class::InlineMethod(update_by(1));
-    let second = Class::InlineMethod(update_by(2));
-    all_hold(&[
-        (updated_class(alloc, 5, 0, 0)? == opening, "five openings"),
-        (
-            updated_class(alloc, 1, 5, 0)? == updated,
-            "five of the first",
-        ),
-        (updated_class(alloc, 1, 4, 0)? == first, "four of the first"),
-        (updated_class(alloc, 0, 3, 3)? == second, "three of each"),
-    ])
+    are_of_class(
+        rt.alloc(),
+        &[
+            (
+                "five openings",
+                &FIVE_OPENINGS,
+                Class::Method(Candidate::opening()),
+            ),
+            (
+                "five of the first",
+                &FIVE_OF_THE_FIRST,
+                Class::Method(update_by(1)),
+            ),
+            (
+                "four of the first",
+                &FOUR_OF_THE_FIRST,
+                Class::InlineMethod(update_by(1)),
+            ),
+            (
+                "three of each",
+                &THREE_OF_EACH,
+                Class::InlineMethod(update_by(2)),
+            ),
+        ],
+    )
 }
+
+const THREE_AND_TWO: [Alike; 2] = [(3, &[Update(1)]), (2, &[Update(2)])];
+
+const TWO_AND_TWO: [Alike; 3] = [(1, &[]), (2, &[Update(1)]), (2, &[Update(2)])];
 
 #[test]
 fn classes_that_want_a_barrier(rt: HostRuntime) -> Result<(), Fail> {
-    let prior = update_by(1).stamp;
-    let class = updated_class(rt.alloc(), 0, 3, 2)?;
-    holds(class == Class::Barrier { prior }, "three and two")?;
-    let prior = Stamp::opening();
-    let class = updated_class(rt.alloc(), 1, 2, 2)?;
-    holds(class == Class::Barrier { prior }, "two and two")
+    let first = update_by(1).stamp;
+    let opening = Stamp::opening();
+    are_of_class(
+        rt.alloc(),
+        &[
+            (
+                "three and two",
+                &THREE_AND_TWO,
+                Class::Barrier { prior: first },
+            ),
+            (
+                "two and two",
+                &TWO_AND_TWO,
+                Class::Barrier { prior: opening },
+            ),
+        ],
+    )
 }
+
+const THREE_BARRIERS: [Alike; 2] = [(2, &[]), (3, &[Barrier])];
+
+const FIVE_BARRIERS: [Alike; 2] = [(3, &[Update(1), Barrier]), (2, &[Update(2), Barrier])];
 
 #[test]
 fn classes_with_a_barrier(rt: HostRuntime) -> Result<(), Fail> {
-    let class = class_of_six(&barred(rt.alloc(), 2, 3, 0, 0)?)?;
-    holds(class == Class::InlineBarrier(barrier()), "three barriers")?;
-    let class = class_of_six(&barred(rt.alloc(), 0, 0, 3, 2)?)?;
-    holds(class == Class::Copy, "five barriers")
+    are_of_class(
+        rt.alloc(),
+        &[
+            (
+                "three barriers",
+                &THREE_BARRIERS,
+                Class::InlineBarrier(barrier()),
+            ),
+            ("five barriers", &FIVE_BARRIERS, Class::Copy),
+        ],
+    )
 }
 
-/// Whether the object candidate of these sets, which have to be of class COPY, is the first update.
-fn is_planned(alloc: Global, sets: &Sets) -> Result<bool, Fail> {
+/// Whether the first update is copied alone, for which no other object's version is read, where the sets are of class
+/// COPY.
+fn copies_the_first(alloc: Global, sets: &Sets) -> Result<bool, Fail> {
     let bounds = Bounds::new(1)?;
     let Class::Copy = classify(sets, OBJECT, &bounds) else {
         return Ok(false);
     };
+    let has_no_evidence = evidence(alloc, sets, OBJECT, &bounds)?.is_empty();
     let plan = plan_copy(alloc, sets, OBJECT, &bounds, &[])?;
-    Ok(plan.joint.as_slice() == [(OBJECT, update_by(1))].as_slice())
-}
-
-fn has_no_evidence(alloc: Global, sets: &Sets) -> Result<bool, Fail> {
-    Ok(evidence(alloc, sets, OBJECT, &Bounds::new(1)?)?.is_empty())
+    Ok(has_no_evidence && plan.joint.as_slice() == [(OBJECT, update_by(1))].as_slice())
 }
 
 #[test]
 fn the_object_candidate_is_copied(rt: HostRuntime) -> Result<(), Fail> {
-    let sets = barred(rt.alloc(), 0, 0, 3, 2)?;
-    let is_planned = is_planned(rt.alloc(), &sets)?;
-    holds(
-        is_planned && has_no_evidence(rt.alloc(), &sets)?,
-        "the first update",
-    )
+    let sets = sets_of(rt.alloc(), &FIVE_BARRIERS)?;
+    holds(copies_the_first(rt.alloc(), &sets)?, "the first update")
 }

@@ -1,21 +1,14 @@
 //! What a client says of itself, which no listing tells.
 
-use qu_base::{Bounds, ClientId, List, ObjectId};
+use super::made::{keys, read};
+use qu_base::{ClientId, ObjectId};
 use qu_client::Client;
-use qu_objects::{Ask, Op, Query};
-use qu_seal::KeyRing;
-use qu_testing::holds;
+use qu_testing::{all_hold, holds};
 use std::alloc::Global;
 use std::test::Fail;
 
-fn read(alloc: Global) -> Result<Op, Fail> {
-    let parts = List::one(alloc, (ObjectId(0), Ask::Read))?;
-    Ok(Op::Query(Query::new(parts)?))
-}
-
 fn started(alloc: Global) -> Result<Client, Fail> {
-    let keys = KeyRing::derive(7, &Bounds::new(1)?, 1);
-    Ok(Client::start(alloc, ClientId(1), keys, 7))
+    Ok(Client::start(alloc, ClientId(1), keys()?, 7))
 }
 
 fn is_idle(client: &Client) -> bool {
@@ -29,24 +22,17 @@ fn is_in_round(client: &Client, round: u8) -> bool {
         && !client.rests()
 }
 
-/// A client that never asked begins to read.
-fn begin(alloc: Global, client: &mut Client) -> Result<(), Fail> {
-    holds(client.last_request().is_none(), "no request yet")?;
-    client.invoke(read(alloc)?)?;
-    Ok(())
-}
-
-fn tick(client: &mut Client) -> Result<(), Fail> {
-    client.tick()?;
-    Ok(())
-}
-
-/// The client begins to read, and a tick ends the round.
+/// A client that never asked begins to read, and a tick ends the round.
 fn reads(alloc: Global, client: &mut Client) -> Result<(), Fail> {
-    begin(alloc, client)?;
-    holds(is_in_round(client, 1), "its first round")?;
-    tick(client)?;
-    holds(is_in_round(client, 2), "its second round")
+    let op = read(alloc, ObjectId(0))?;
+    holds(client.last_request().is_none(), "no request yet")?;
+    client.invoke(op)?;
+    let is_in_first = is_in_round(client, 1);
+    client.tick()?;
+    all_hold(&[
+        (is_in_first, "its first round"),
+        (is_in_round(client, 2), "its second round"),
+    ])
 }
 
 #[test]
@@ -54,9 +40,12 @@ fn a_client_tells_its_round(rt: HostRuntime) -> Result<(), Fail> {
     reads(rt.alloc(), &mut started(rt.alloc())?)
 }
 
+fn ticks(client: &mut Client) -> Result<(), Fail> {
+    client.tick()?;
+    holds(is_idle(client), "nothing under way")
+}
+
 #[test]
 fn a_tick_of_an_idle_client_makes_nothing(rt: HostRuntime) -> Result<(), Fail> {
-    let mut client = started(rt.alloc())?;
-    tick(&mut client)?;
-    holds(is_idle(&client), "nothing under way")
+    ticks(&mut started(rt.alloc())?)
 }

@@ -1,4 +1,4 @@
-use qu_base::{ClientId, List, NoMemory, ObjectId, Party, ReplicaId};
+use qu_base::{ClientId, List, ObjectId, Party, ReplicaId};
 use qu_decoding::decode;
 use qu_frames::{Body, Frame, Letter, encode};
 use qu_testing::holds;
@@ -15,29 +15,25 @@ const REPLY: &str =
 const MEND: &str =
     "01010001000000000000000101010000000300000000000000000000000000000000000000000000000000000000000000000000";
 
-fn read(alloc: Global, text: &[u8]) -> Result<Frame, Fail> {
-    Ok(decode(alloc, text).ok().ok_or("no frame")?)
+/// A copy of the frame with these digits.
+fn copied(alloc: Global, digits: &str) -> Result<Frame, Fail> {
+    let text = hex::decode(alloc, digits)?;
+    match decode(alloc, text.as_slice()) {
+        Ok(frame) => Ok(frame.copy(alloc)?),
+        Err(_) => Err("no frame".into()),
+    }
 }
 
-fn copy_written(alloc: Global, frame: &Frame) -> Result<List<u8>, NoMemory> {
-    let copy = frame.copy(alloc)?;
-    encode(alloc, &copy)
-}
-
-/// A copy of the frame of this text as bytes.
-fn written_again(alloc: Global, text: &[u8]) -> Result<List<u8>, Fail> {
-    let written = {
-        let frame = read(alloc, text)?;
-        copy_written(alloc, &frame)
-    };
-    Ok(written?)
+/// Whether the frame is written with these digits.
+fn is_written(alloc: Global, frame: &Frame, digits: &str) -> Result<bool, Fail> {
+    let text = hex::decode(alloc, digits)?;
+    let written = encode(alloc, frame)?;
+    Ok(written.as_slice() == text.as_slice())
 }
 
 /// Whether a copy of the frame with these digits is written as it was read.
 fn is_kept(alloc: Global, digits: &str) -> Result<bool, Fail> {
-    let text = hex::decode(alloc, digits)?;
-    let written = written_again(alloc, &text)?;
-    Ok(written.as_slice() == text.as_slice())
+    is_written(alloc, &copied(alloc, digits)?, digits)
 }
 
 #[test]
@@ -57,19 +53,9 @@ fn is_mend_of_object_0(frame: &Frame) -> bool {
     }
 }
 
-fn copy_is_mend_of_object_0(alloc: Global, frame: &Frame) -> Result<bool, NoMemory> {
-    let copy = frame.copy(alloc)?;
-    Ok(is_mend_of_object_0(&copy))
-}
-
 #[test]
 fn a_copied_mend_names_its_object(rt: HostRuntime) -> Result<(), Fail> {
-    let text = hex::decode(rt.alloc(), MEND)?;
-    let is_mend = {
-        let frame = read(rt.alloc(), &text)?;
-        copy_is_mend_of_object_0(rt.alloc(), &frame)
-    };
-    holds(is_mend?, "object 0")
+    holds(is_mend_of_object_0(&copied(rt.alloc(), MEND)?), "object 0")
 }
 
 fn letter(alloc: Global) -> Result<Letter, Fail> {

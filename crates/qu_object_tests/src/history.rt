@@ -1,11 +1,25 @@
-use super::facts::all_hold;
+use super::made::one_object;
+use Made::{Barrier, Update};
 use qu_base::{Bounds, ClientId, Digest, List, ObjectId, ReplicaId};
 use qu_history::{AddFail, History, Sealed, SetOf, Sets};
 use qu_stamp::{Candidate, Group, Stamp};
+use qu_testing::{all_hold, holds};
 use std::alloc::Global;
 use std::test::Fail;
 
 pub(super) const OBJECT: ObjectId = ObjectId(5);
+
+/// What stands in a history above the opening candidate.
+#[derive(Clone, Copy)]
+pub(super) enum Made {
+    /// The update of this client.
+    Update(u16),
+    /// A barrier above the updates.
+    Barrier,
+}
+
+/// So many histories with these candidates above the opening one.
+pub(super) type Alike = (u8, &'static [Made]);
 
 fn stamp_at(time: u64, client: u16) -> Stamp {
     Stamp {
@@ -26,46 +40,51 @@ pub(super) fn update_by(client: u16) -> Candidate {
     }
 }
 
-/// Puts so many histories at the end, each with these candidates above the opening one, and with no HMACs.
-pub(super) fn put(
-    alloc: Global,
-    entries: &mut List<Sealed>,
-    count: u8,
-    candidates: &[Candidate],
-) -> Result<(), Fail> {
-    for _ in 0..count {
-        let replica = u8::try_from(entries.len()).ok().ok_or("replicas")?;
-        let mut history = History::opening(alloc, OBJECT, ReplicaId(replica))?;
-        for candidate in candidates {
-            history.add(*candidate)?;
+/// The barrier, which rests upon the update of client 1.
+pub(super) fn barrier() -> Candidate {
+    Candidate {
+        stamp: Stamp {
+            time: 2,
+            barrier: true,
+            client: ClientId(1),
+            act: None,
+            set: Digest([2; 32]),
+        },
+        prior: stamp_at(1, 1),
+        group: Group::none(),
+    }
+}
+
+/// The history of a replica with these candidates above the opening one, and with no HMACs.
+fn sealed(alloc: Global, replica: u8, held: &[Made]) -> Result<Sealed, Fail> {
+    let mut history = History::opening(alloc, OBJECT, ReplicaId(replica))?;
+    for made in held {
+        history.add(match made {
+            Update(client) => update_by(*client),
+            Barrier => barrier(),
+        })?;
+    }
+    let macs = List::new(alloc);
+    Ok(Sealed { history, macs })
+}
+
+/// Puts so many such histories at the end, of the replicas from 0 on.
+fn put_all(alloc: Global, entries: &mut List<Sealed>, all: &[Alike]) -> Result<(), Fail> {
+    let mut replica: u8 = 0;
+    for (count, held) in all {
+        for _ in 0..*count {
+            entries.push(sealed(alloc, replica, *held)?)?;
+            replica = replica.saturating_add(1);
         }
-        let macs = List::new(alloc);
-        entries.push(Sealed { history, macs })?;
     }
     Ok(())
 }
 
-/// Sets of one object with these entries, where they are sets.
-fn sets_with(alloc: Global, entries: List<Sealed>) -> Result<Option<Sets>, Fail> {
-    let object = SetOf {
-        object: OBJECT,
-        entries,
-    };
-    Ok(Sets::new(alloc, List::one(alloc, object)?)?)
-}
-
-pub(super) fn one_object(alloc: Global, entries: List<Sealed>) -> Result<Sets, Fail> {
-    Ok(sets_with(alloc, entries)?.ok_or("no sets")?)
-}
-
-/// One object with so many histories that end with the update of client 1, with that of client 2,
-/// and with the opening candidate.
-fn sets_of(alloc: Global, first: u8, second: u8, opening: u8) -> Result<Sets, Fail> {
+/// Sets of the object with so many histories of each kind.
+pub(super) fn sets_of(alloc: Global, all: &[Alike]) -> Result<Sets, Fail> {
     let mut entries = List::new(alloc);
-    put(alloc, &mut entries, first, &[update_by(1)])?;
-    put(alloc, &mut entries, second, &[update_by(2)])?;
-    put(alloc, &mut entries, opening, &[])?;
-    one_object(alloc, entries)
+    put_all(alloc, &mut entries, all)?;
+    one_object(alloc, OBJECT, entries)
 }
 
 fn tell(sets: &Sets) -> Result<(), Fail> {
@@ -79,59 +98,79 @@ fn tell(sets: &Sets) -> Result<(), Fail> {
     ])
 }
 
+const FOUR: [Alike; 3] = [(2, &[Update(1)]), (1, &[Update(2)]), (1, &[])];
+
 #[test]
 fn sets_tell_what_their_histories_hold(rt: HostRuntime) -> Result<(), Fail> {
-    tell(&sets_of(rt.alloc(), 2, 1, 1)?.copy()?)
+    tell(&sets_of(rt.alloc(), &FOUR)?.copy()?)
 }
 
-/// How many histories are left where so many end with the one update and with the other.
-fn left(alloc: Global, first: u8, second: u8) -> Result<u8, Fail> {
-    let trimmed = sets_of(alloc, first, second, 0)?.trim(alloc, &Bounds::new(1)?)?;
-    Ok(trimmed.entries(OBJECT))
-}
+/// Histories that end with the one update and with the other, how many of them are left, and words for that.
+const TRIMMED: [([Alike; 2], u8, &str); 3] = [
+    ([(5, &[Update(1)]), (1, &[Update(2)])], 5, "one is left out"),
+    (
+        [(4, &[Update(1)]), (2, &[Update(2)])],
+        6,
+        "two would be too many",
+    ),
+    ([(3, &[Update(1)]), (3, &[Update(2)])], 6, "three too"),
+];
 
 #[test]
 fn sets_are_trimmed_where_a_quorum_is_left(rt: HostRuntime) -> Result<(), Fail> {
-    all_hold(&[
-        (left(rt.alloc(), 5, 1)? == 5, "one is left out"),
-        (left(rt.alloc(), 4, 2)? == 6, "two would be too many"),
-        (left(rt.alloc(), 3, 3)? == 6, "three too"),
-    ])
+    let bounds = Bounds::new(1)?;
+    for (all, left, words) in &TRIMMED {
+        let trimmed = sets_of(rt.alloc(), all)?.trim(rt.alloc(), &bounds)?;
+        holds(trimmed.entries(OBJECT) == *left, *words)?;
+    }
+    Ok(())
 }
 
-/// Whether histories of these two replicas are sets.
-fn are_accepted(alloc: Global, first: u8, second: u8) -> Result<bool, Fail> {
-    let mut entries = List::new(alloc);
-    for replica in [first, second] {
-        let history = History::opening(alloc, OBJECT, ReplicaId(replica))?;
-        let macs = List::new(alloc);
-        entries.push(Sealed { history, macs })?;
+fn put(alloc: Global, entries: &mut List<Sealed>, replicas: &[u8]) -> Result<(), Fail> {
+    for replica in replicas {
+        entries.push(sealed(alloc, *replica, &[])?)?;
     }
-    Ok(sets_with(alloc, entries)?.is_some())
+    Ok(())
 }
+
+/// Whether histories of these replicas are sets.
+fn are_accepted(alloc: Global, replicas: &[u8]) -> Result<bool, Fail> {
+    let mut entries = List::new(alloc);
+    put(alloc, &mut entries, replicas)?;
+    let object = SetOf {
+        object: OBJECT,
+        entries,
+    };
+    Ok(Sets::new(alloc, List::one(alloc, object)?)?.is_some())
+}
+
+/// Replicas, whether their histories are sets, and words for that.
+const REPLICAS: [([u8; 2], bool, &str); 4] = [
+    ([0, 1], true, "0 and 1"),
+    ([1, 1], false, "1 twice"),
+    ([1, 0], false, "1 and 0"),
+    ([0, 16], false, "no replica 16"),
+];
 
 #[test]
 fn sets_want_replicas_that_rise(rt: HostRuntime) -> Result<(), Fail> {
-    all_hold(&[
-        (are_accepted(rt.alloc(), 0, 1)?, "0 and 1"),
-        (!are_accepted(rt.alloc(), 1, 1)?, "1 twice"),
-        (!are_accepted(rt.alloc(), 1, 0)?, "1 and 0"),
-        (!are_accepted(rt.alloc(), 0, 16)?, "no replica 16"),
-        (
-            Sets::new(rt.alloc(), List::new(rt.alloc()))?.is_none(),
-            "no object",
-        ),
-    ])
+    let of_none = Sets::new(rt.alloc(), List::new(rt.alloc()))?;
+    holds(of_none.is_none(), "no object")?;
+    for (replicas, are_sets, words) in &REPLICAS {
+        holds(are_accepted(rt.alloc(), replicas)? == *are_sets, *words)?;
+    }
+    Ok(())
 }
 
 fn refuses(history: &mut History) -> Result<(), Fail> {
-    history.add(update_by(2))?;
     let refused = AddFail::NotLater(stamp_at(1, 2));
-    let earlier = history.add(update_by(1));
-    let same = history.add(update_by(2));
     all_hold(&[
-        (earlier == Err(refused), "an earlier stamp"),
-        (same == Err(refused), "the same stamp"),
+        (history.add(update_by(2)).is_ok(), "the first update"),
+        (
+            history.add(update_by(1)) == Err(refused),
+            "an earlier stamp",
+        ),
+        (history.add(update_by(2)) == Err(refused), "the same stamp"),
         (history.len() == 2, "two candidates"),
         (history.holds(&update_by(2)), "the one that was added"),
         (!history.holds(&update_by(1)), "the refused one is not held"),
@@ -152,27 +191,19 @@ fn next_of(history: &History, time: u64) -> Candidate {
     }
 }
 
-fn fill(history: &mut History) -> Result<(), Fail> {
+fn fills(history: &mut History) -> Result<(), Fail> {
     for time in 1..1024 {
         history.add(next_of(history, time))?;
     }
-    Ok(())
-}
-
-fn is_full(history: &mut History) -> Result<(), Fail> {
     let last = next_of(history, 1024);
-    let length = history.len();
-    let more = history.add(last);
     all_hold(&[
-        (length == 1024, "a full history"),
-        (more == Err(AddFail::HistoryFull), "one more"),
+        (history.len() == 1024, "a full history"),
+        (history.add(last) == Err(AddFail::HistoryFull), "one more"),
         (history.latest() == stamp_at(1023, 1), "the latest stays"),
     ])
 }
 
 #[test]
 fn a_history_holds_1024_candidates(rt: HostRuntime) -> Result<(), Fail> {
-    let mut history = History::opening(rt.alloc(), OBJECT, ReplicaId(0))?;
-    fill(&mut history)?;
-    is_full(&mut history)
+    fills(&mut History::opening(rt.alloc(), OBJECT, ReplicaId(0))?)
 }

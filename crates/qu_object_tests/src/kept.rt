@@ -32,18 +32,21 @@ fn after(
     method: Method,
 ) -> Result<Performed, Fail> {
     let act = act_of(alloc, method)?;
+    performed(alloc, states.as_slice(), client, number, &act)
+}
+
+fn performed(
+    alloc: Global,
+    states: &[ObjState],
+    client: u16,
+    number: u64,
+    act: &Act,
+) -> Result<Performed, Fail> {
     if states.len() != 1 || act.parts().len() != 1 {
         return Err("one object")?;
     }
     let stamps = [Stamp::opening()];
-    Ok(perform(
-        alloc,
-        states.as_slice(),
-        &act,
-        ClientId(client),
-        number,
-        &stamps,
-    )?)
+    Ok(perform(alloc, states, act, ClientId(client), number, &stamps)?)
 }
 
 /// How this act of client 1 stands there.
@@ -54,69 +57,51 @@ fn stands(
     method: Method,
 ) -> Result<Standing, Fail> {
     let act = act_of(alloc, method)?;
-    let digest = act_digest(alloc, ClientId(1), number, &act)?;
-    if states.len() != 1 || act.parts().len() != 1 {
-        return Err("one object")?;
-    }
-    Ok(standing_of(alloc, states.as_slice(), &act, ClientId(1), number, &digest)?)
+    standing(alloc, states.as_slice(), number, &act)
 }
 
-fn is_told_again(alloc: Global, states: &List<ObjState>, refused: Answer) -> Result<bool, Fail> {
-    Ok(stands(alloc, states, 1, Method::Take(1))? == Standing::Already(refused))
+fn standing(alloc: Global, states: &[ObjState], number: u64, act: &Act) -> Result<Standing, Fail> {
+    let digest = act_digest(alloc, ClientId(1), number, act)?;
+    Ok(standing_of(alloc, states, act, ClientId(1), number, &digest)?)
+}
+
+/// Whether the refusal of an act of client 1 is told again.
+fn is_told_again(alloc: Global, made: &Performed) -> Result<bool, Fail> {
+    let standing = stands(alloc, &made.states, 1, Method::Take(1))?;
+    let refused = Answer::Refused { at: 0, why: UNDER };
+    Ok(made.answer == refused && standing == Standing::Already(refused))
 }
 
 #[test]
 fn a_refused_act_is_told_again(rt: HostRuntime) -> Result<(), Fail> {
     let made = after(rt.alloc(), &fresh(rt.alloc())?, 1, 1, Method::Take(1))?;
-    let refused = Answer::Refused { at: 0, why: UNDER };
-    let is_refused = made.answer == refused;
-    holds(
-        is_refused && is_told_again(rt.alloc(), &made.states, refused)?,
-        "a refusal",
-    )
+    holds(is_told_again(rt.alloc(), &made)?, "a refusal")
 }
 
-fn is_spent(
-    alloc: Global,
-    states: &List<ObjState>,
-    number: u64,
-    method: Method,
-) -> Result<bool, Fail> {
-    let spent = Standing::Spent {
-        object: OBJECT,
-        number: 2,
-    };
-    Ok(stands(alloc, states, number, method)? == spent)
-}
+/// Acts of client 1, whose number 2 is kept: the number, what is added, whether the act is spent or fresh, and words
+/// for that.
+const BEHIND_NUMBER_2: [(u64, u64, bool, &str); 3] = [
+    (1, 1, true, "an older number"),
+    (2, 1, true, "another act under this number"),
+    (3, 5, false, "a newer number"),
+];
 
-fn is_fresh(
-    alloc: Global,
-    states: &List<ObjState>,
-    number: u64,
-    method: Method,
-) -> Result<bool, Fail> {
-    Ok(stands(alloc, states, number, method)? == Standing::Fresh)
-}
-
-fn behind_number_2(alloc: Global, states: &List<ObjState>) -> Result<(), Fail> {
-    holds(
-        is_spent(alloc, states, 1, Method::Add(1))?,
-        "an older number",
-    )?;
-    holds(
-        is_spent(alloc, states, 2, Method::Add(1))?,
-        "another act under this number",
-    )?;
-    holds(
-        is_fresh(alloc, states, 3, Method::Add(5))?,
-        "a newer number",
-    )
+fn is_behind_number_2(standing: &Standing, is_spent: bool) -> bool {
+    match standing {
+        Standing::Spent { object, number } => is_spent && *object == OBJECT && *number == 2,
+        Standing::Fresh => !is_spent,
+        Standing::Already(_) => false,
+    }
 }
 
 #[test]
 fn a_number_below_the_kept_one_is_spent(rt: HostRuntime) -> Result<(), Fail> {
     let made = after(rt.alloc(), &fresh(rt.alloc())?, 1, 2, Method::Add(5))?;
-    behind_number_2(rt.alloc(), &made.states)
+    for (number, more, is_spent, words) in &BEHIND_NUMBER_2 {
+        let standing = stands(rt.alloc(), &made.states, *number, Method::Add(*more))?;
+        holds(is_behind_number_2(&standing, *is_spent), *words)?;
+    }
+    Ok(())
 }
 
 /// What stands after an update of client 2 and one of client 1.
@@ -131,19 +116,20 @@ fn after_three(alloc: Global) -> Result<Performed, Fail> {
     after(alloc, &second.states, 2, 2, Method::Add(1))
 }
 
-/// The number of the last update of a client that the state of the object keeps.
-fn kept_number(states: &List<ObjState>, client: u16) -> Option<u64> {
-    let state = states.get(0)?;
-    for row in &state.kept {
-        if row.client == ClientId(client) {
-            return Some(row.number);
-        }
-    }
-    None
-}
-
+/// Whether the state of the object keeps the last update of each client, by rising client.
 fn has_both_rows(states: &List<ObjState>) -> bool {
-    kept_number(states, 1) == Some(1) && kept_number(states, 2) == Some(2)
+    let Some(state) = states.get(0) else {
+        return false;
+    };
+    match state.kept.as_slice() {
+        [first, second] => {
+            first.client == ClientId(1)
+                && first.number == 1
+                && second.client == ClientId(2)
+                && second.number == 2
+        }
+        _ => false,
+    }
 }
 
 fn is_number(answer: &Answer, wanted: u64) -> bool {

@@ -9,8 +9,6 @@ mod class;
 #[cfg(test)]
 mod client;
 #[cfg(test)]
-mod facts;
-#[cfg(test)]
 mod frames;
 #[cfg(test)]
 mod history;
@@ -18,6 +16,8 @@ mod history;
 mod kept;
 #[cfg(test)]
 mod machine;
+#[cfg(test)]
+mod made;
 #[cfg(test)]
 mod members;
 #[cfg(test)]

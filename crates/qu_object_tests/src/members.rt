@@ -1,9 +1,11 @@
 //! Classes and plans of objects whose candidates stand in groups.
 
-use super::facts::all_hold;
-use qu_base::{Bounds, ClientId, Digest, List, ObjectId, ReplicaId};
+use super::made::{put_entry, whole};
+use Held::{Alone, Barrier, Joint, Later, Opening, Pair};
+use Said::{Copies, Refuses};
+use qu_base::{Bounds, ClientId, Digest, List, NoMemory, ObjectId};
 use qu_class::{Class, classify};
-use qu_history::{History, Sealed, SetOf, Sets};
+use qu_history::{Sealed, SetOf, Sets};
 use qu_objects::Link;
 use qu_plan::{Fact, PlanFail, plan_copy};
 use qu_stamp::{Candidate, Group, Stamp};
@@ -17,6 +19,25 @@ const OWN: ObjectId = ObjectId(5);
 
 const HIGH: ObjectId = ObjectId(8);
 
+/// A candidate that histories hold above the opening one.
+#[derive(Clone, Copy)]
+enum Held {
+    /// That which all hold.
+    Opening,
+    /// That of an act on all three objects.
+    Joint,
+    /// One with the same stamp, of an act on the two upper ones alone.
+    Pair,
+    /// One with the same stamp, of an act on one object.
+    Alone,
+    Barrier,
+    /// The one upon which the upper object goes on alone.
+    Later,
+}
+
+/// An object with five histories, of which so many hold this candidate, and all a barrier above, or none.
+type Shown = (ObjectId, u8, Held, bool);
+
 fn stamp(time: u64, barrier: bool) -> Stamp {
     Stamp {
         time,
@@ -27,236 +48,263 @@ fn stamp(time: u64, barrier: bool) -> Stamp {
     }
 }
 
-/// The candidate of an act on all three objects.
-fn joint() -> Candidate {
-    with_group(&[(LOW, 1), (OWN, 1), (HIGH, 1)])
-}
-
-/// One with the same stamp, of an act on the two upper ones alone.
-fn other() -> Candidate {
-    with_group(&[(OWN, 1), (HIGH, 1)])
-}
-
-fn with_group(pairs: &[(ObjectId, u64)]) -> Candidate {
+fn candidate(stamp: Stamp, prior: Stamp, pairs: &[(ObjectId, u64)]) -> Candidate {
     Candidate {
-        stamp: stamp(1, false),
-        prior: Stamp::opening(),
+        stamp,
+        prior,
         group: Group::new(pairs).unwrap_or(Group::none()),
     }
 }
 
-fn barrier() -> Candidate {
-    Candidate {
-        stamp: stamp(2, true),
-        prior: Stamp::opening(),
-        group: Group::none(),
+fn candidate_of(held: Held) -> Candidate {
+    let first = stamp(1, false);
+    let opening = Stamp::opening();
+    match held {
+        Opening => Candidate::opening(),
+        Joint => candidate(first, opening, &[(LOW, 1), (OWN, 1), (HIGH, 1)]),
+        Pair => candidate(first, opening, &[(OWN, 1), (HIGH, 1)]),
+        Alone => candidate(first, opening, &[]),
+        Barrier => candidate(stamp(2, true), opening, &[]),
+        Later => candidate(stamp(3, false), first, &[]),
     }
 }
 
-/// Puts an object at the end, with five histories, of which so many hold this candidate.
-fn put(
-    alloc: Global,
-    sets: &mut List<SetOf>,
-    object: ObjectId,
-    count: u8,
-    candidate: &Candidate,
-) -> Result<(), Fail> {
-    let mut entries = List::new(alloc);
+/// What the history of a replica has above the opening candidate.
+fn above(shown: &Shown, replica: u8) -> [Option<Candidate>; 2] {
+    let (_, count, held, is_barred) = *shown;
+    let candidate = if replica < count {
+        Some(candidate_of(held))
+    } else {
+        None
+    };
+    let barrier = if is_barred {
+        Some(candidate_of(Barrier))
+    } else {
+        None
+    };
+    [candidate, barrier]
+}
+
+/// Puts the five histories at the end.
+fn put_entries(alloc: Global, entries: &mut List<Sealed>, shown: &Shown) -> Result<(), Fail> {
     for replica in 0..5 {
-        let mut history = History::opening(alloc, object, ReplicaId(replica))?;
-        if replica < count {
-            history.add(*candidate)?;
-        }
-        let macs = List::new(alloc);
-        entries.push(Sealed { history, macs })?;
+        put_entry(alloc, entries, shown.0, replica, &above(shown, replica))?;
     }
-    sets.push(SetOf { object, entries })?;
     Ok(())
 }
 
-/// The class of the middle object where one of six replicas may lie. Of the lower and of the upper object the sets
-/// have three histories with this candidate, or none.
-fn class_with(
-    alloc: Global,
-    low: Option<Candidate>,
-    count: u8,
-    high: Option<Candidate>,
-) -> Result<Class, Fail> {
-    let mut sets = List::new(alloc);
-    if let Some(candidate) = low {
-        put(alloc, &mut sets, LOW, 3, &candidate)?;
+fn put_all(alloc: Global, sets: &mut List<SetOf>, all: &[Shown]) -> Result<(), Fail> {
+    for shown in all {
+        let mut entries = List::new(alloc);
+        put_entries(alloc, &mut entries, shown)?;
+        let object = shown.0;
+        sets.push(SetOf { object, entries })?;
     }
-    put(alloc, &mut sets, OWN, count, &joint())?;
-    if let Some(candidate) = high {
-        put(alloc, &mut sets, HIGH, 3, &candidate)?;
-    }
-    let sets = Sets::new(alloc, sets)?.ok_or("no sets")?;
-    Ok(classify(&sets, OWN, &Bounds::new(1)?))
+    Ok(())
 }
+
+fn sets_of(alloc: Global, all: &[Shown]) -> Result<Sets, Fail> {
+    let mut sets = List::new(alloc);
+    put_all(alloc, &mut sets, all)?;
+    whole(alloc, sets)
+}
+
+/// Fails with the words of the first sets in which the middle object is not of this class, where one of six replicas
+/// may lie.
+fn are_of_class(alloc: Global, cases: &[(&'static str, &[Shown], Class)]) -> Result<(), Fail> {
+    let bounds = Bounds::new(1)?;
+    for (words, all, class) in cases {
+        let sets = sets_of(alloc, *all)?;
+        holds(classify(&sets, OWN, &bounds) == *class, *words)?;
+    }
+    Ok(())
+}
+
+const NONE: [Shown; 1] = [(OWN, 4, Joint, false)];
+
+const HIGHER: [Shown; 2] = [(OWN, 4, Joint, false), (HIGH, 3, Joint, false)];
+
+const TORN: [Shown; 2] = [(OWN, 4, Joint, false), (HIGH, 3, Pair, false)];
+
+const LOWER: [Shown; 2] = [(LOW, 3, Joint, false), (OWN, 4, Joint, false)];
+
+const ABSENT: [(&str, &[Shown], Class); 4] = [
+    ("both are absent", &NONE, Class::Needs(LOW)),
+    ("the lower one is absent", &HIGHER, Class::Needs(LOW)),
+    ("and the upper one disagrees", &TORN, Class::Needs(LOW)),
+    ("the upper one is absent", &LOWER, Class::Needs(HIGH)),
+];
 
 #[test]
 fn the_lowest_absent_member_is_needed(rt: HostRuntime) -> Result<(), Fail> {
-    let alloc = rt.alloc();
-    let none = class_with(alloc, None, 4, None)?;
-    let high = class_with(alloc, None, 4, Some(joint()))?;
-    let torn = class_with(alloc, None, 4, Some(other()))?;
-    let low = class_with(alloc, Some(joint()), 4, None)?;
-    all_hold(&[
-        (none == Class::Needs(LOW), "both are absent"),
-        (high == Class::Needs(LOW), "the lower one is absent"),
-        (torn == Class::Needs(LOW), "and the upper one disagrees"),
-        (low == Class::Needs(HIGH), "the upper one is absent"),
-    ])
+    are_of_class(rt.alloc(), &ABSENT)
+}
+
+/// All three objects, where three histories of the outer ones hold these.
+fn three(low: Held, high: Held) -> [Shown; 3] {
+    [
+        (LOW, 3, low, false),
+        (OWN, 4, Joint, false),
+        (HIGH, 3, high, false),
+    ]
 }
 
 #[test]
 fn members_agree_in_the_whole_group(rt: HostRuntime) -> Result<(), Fail> {
-    let alloc = rt.alloc();
-    let prior = joint().stamp;
-    let agreed = class_with(alloc, Some(joint()), 4, Some(joint()))?;
-    let torn = class_with(alloc, Some(joint()), 4, Some(other()))?;
-    let later = class_with(alloc, Some(barrier()), 4, Some(joint()))?;
-    all_hold(&[
-        (agreed == Class::InlineMethod(joint()), "all agree"),
-        (torn == Class::Barrier { prior }, "another group"),
-        (later == Class::Barrier { prior }, "a later stamp"),
-    ])
+    let prior = stamp(1, false);
+    are_of_class(
+        rt.alloc(),
+        &[
+            (
+                "all agree",
+                &three(Joint, Joint),
+                Class::InlineMethod(candidate_of(Joint)),
+            ),
+            (
+                "another group",
+                &three(Joint, Pair),
+                Class::Barrier { prior },
+            ),
+            (
+                "a later stamp",
+                &three(Barrier, Joint),
+                Class::Barrier { prior },
+            ),
+        ],
+    )
 }
+
+const HELD_BY_FIVE: [Shown; 2] = [(OWN, 5, Joint, false), (HIGH, 3, Pair, false)];
 
 #[test]
 fn method_asks_for_no_member(rt: HostRuntime) -> Result<(), Fail> {
-    let class = class_with(rt.alloc(), None, 5, Some(other()))?;
-    holds(class == Class::Method(joint()), "five hold it")
-}
-
-/// The middle object, with a barrier that five hold above this candidate, which three hold.
-fn barred_set(alloc: Global, candidate: &Candidate) -> Result<SetOf, Fail> {
-    let mut entries = List::new(alloc);
-    for replica in 0..5 {
-        let mut history = History::opening(alloc, OWN, ReplicaId(replica))?;
-        if replica < 3 {
-            history.add(*candidate)?;
-        }
-        history.add(barrier())?;
-        let macs = List::new(alloc);
-        entries.push(Sealed { history, macs })?;
-    }
-    Ok(SetOf {
-        object: OWN,
-        entries,
-    })
-}
-
-/// Sets of it alone.
-fn barred(alloc: Global, candidate: &Candidate) -> Result<Sets, Fail> {
-    let sets = List::one(alloc, barred_set(alloc, candidate)?)?;
-    Ok(Sets::new(alloc, sets)?.ok_or("no sets")?)
-}
-
-/// What the plan needs, where the sets are of class COPY.
-fn needed(alloc: Global, candidate: Candidate) -> Result<Option<ObjectId>, Fail> {
-    let sets = barred(alloc, &candidate)?;
-    let bounds = Bounds::new(1)?;
-    let Class::Copy = classify(&sets, OWN, &bounds) else {
-        return Ok(None);
-    };
-    Ok(match plan_copy(alloc, &sets, OWN, &bounds, &[]) {
-        Err(PlanFail::Needs(object)) => Some(object),
-        _ => None,
-    })
-}
-
-#[test]
-fn a_plan_needs_the_lowest_other_member(rt: HostRuntime) -> Result<(), Fail> {
-    let alloc = rt.alloc();
-    all_hold(&[
-        (needed(alloc, joint())? == Some(LOW), "the lower one"),
-        (needed(alloc, other())? == Some(HIGH), "the upper one"),
-        (needed(alloc, with_group(&[]))?.is_none(), "it is alone"),
-    ])
-}
-
-/// The candidate upon which the upper object goes on alone.
-fn later() -> Candidate {
-    Candidate {
-        stamp: stamp(3, false),
-        prior: other().stamp,
-        group: Group::none(),
-    }
+    let class = Class::Method(candidate_of(Joint));
+    are_of_class(rt.alloc(), &[("five hold it", &HELD_BY_FIVE, class)])
 }
 
 /// What a plan says of the middle object.
-#[derive(Clone, Copy, PartialEq, Eq)]
+#[derive(Clone, Copy)]
 enum Said {
-    Copies(Candidate),
+    /// It alone is copied: this candidate.
+    Copies(Held),
     Refuses(PlanFail),
-    Nothing,
 }
 
-/// The plan of the middle object, whose candidate has a member on the upper one, where this version of the upper one is
-/// of class METHOD and has this link to the middle one.
-fn said_beside(alloc: Global, version: Candidate, link: Option<Stamp>) -> Result<Said, Fail> {
-    let mut sets = List::one(alloc, barred_set(alloc, &other())?)?;
-    put(alloc, &mut sets, HIGH, 5, &version)?;
-    let sets = Sets::new(alloc, sets)?.ok_or("no sets")?;
-    let mut links = List::new(alloc);
-    if let Some(stamp) = link {
-        links.push(Link { object: OWN, stamp })?;
-    }
-    let facts = List::one(
-        alloc,
-        Fact {
-            object: HIGH,
-            stamp: version.stamp,
-            links,
-        },
-    )?;
-    said_by(alloc, &sets, facts.as_slice())
-}
+/// Words for what is said; the candidate of the middle object, which three hold below a barrier that five hold; what
+/// five hold of the upper object, if it is shown, with the time of its link to the middle one, if it has one; and what
+/// the plan says.
+type Case = (&'static str, Held, Option<(Held, Option<u64>)>, Said);
 
-fn said_by(alloc: Global, sets: &Sets, facts: &[Fact]) -> Result<Said, Fail> {
-    let bounds = Bounds::new(1)?;
-    let Class::Copy = classify(sets, OWN, &bounds) else {
-        return Ok(Said::Nothing);
+/// What is known of the upper object's version.
+fn fact(alloc: Global, version: Held, link: Option<u64>) -> Result<Fact, NoMemory> {
+    let links = match link {
+        Some(time) => List::one(
+            alloc,
+            Link {
+                object: OWN,
+                stamp: stamp(time, false),
+            },
+        )?,
+        None => List::new(alloc),
     };
-    Ok(match plan_copy(alloc, sets, OWN, &bounds, facts) {
-        Ok(plan) => match plan.joint.as_slice() {
-            [(object, candidate)] if *object == OWN => Said::Copies(*candidate),
-            _ => Said::Nothing,
-        },
-        Err(why) => Said::Refuses(why),
+    Ok(Fact {
+        object: HIGH,
+        stamp: candidate_of(version).stamp,
+        links,
     })
 }
 
+/// Whether this is what the plan of the middle object says, where the sets are of class COPY.
+fn is_said(alloc: Global, sets: &Sets, facts: &[Fact], bounds: &Bounds, said: Said) -> bool {
+    let Class::Copy = classify(sets, OWN, bounds) else {
+        return false;
+    };
+    match plan_copy(alloc, sets, OWN, bounds, facts) {
+        Ok(plan) => match said {
+            Copies(held) => plan.joint.as_slice() == [(OWN, candidate_of(held))].as_slice(),
+            Refuses(_) => false,
+        },
+        Err(why) => matches!(said, Refuses(wanted) if wanted == why),
+    }
+}
+
+/// Whether the plan says this where the upper object is not shown.
+fn is_said_alone(alloc: Global, own: Held, bounds: &Bounds, said: Said) -> Result<bool, Fail> {
+    let sets = sets_of(alloc, &[(OWN, 3, own, true)])?;
+    Ok(is_said(alloc, &sets, &[], bounds, said))
+}
+
+/// Whether the plan says this where it is.
+fn is_said_beside(
+    alloc: Global,
+    own: Held,
+    (version, link): (Held, Option<u64>),
+    bounds: &Bounds,
+    said: Said,
+) -> Result<bool, Fail> {
+    let sets = sets_of(alloc, &[(OWN, 3, own, true), (HIGH, 5, version, false)])?;
+    let facts = [fact(alloc, version, link)?];
+    Ok(is_said(alloc, &sets, &facts, bounds, said))
+}
+
+/// Fails with the words of the first case in which the plan says something else.
+fn are_said(alloc: Global, cases: &[Case]) -> Result<(), Fail> {
+    let bounds = Bounds::new(1)?;
+    for (words, own, beside, said) in cases {
+        let is_said = match beside {
+            Some(beside) => is_said_beside(alloc, *own, *beside, &bounds, *said)?,
+            None => is_said_alone(alloc, *own, &bounds, *said)?,
+        };
+        holds(is_said, *words)?;
+    }
+    Ok(())
+}
+
+const NEEDS_LOW: Said = Refuses(PlanFail::Needs(LOW));
+
+const NEEDS_HIGH: Said = Refuses(PlanFail::Needs(HIGH));
+
+const STALE: Said = Refuses(PlanFail::Stale(HIGH));
+
+const SKIPS: Said = Copies(Opening);
+
+const COVERS: Said = Copies(Pair);
+
+const UNSHOWN: [Case; 3] = [
+    ("the lower one", Joint, None, NEEDS_LOW),
+    ("the upper one", Pair, None, NEEDS_HIGH),
+    ("it is alone", Alone, None, Copies(Alone)),
+];
+
+#[test]
+fn a_plan_needs_the_lowest_other_member(rt: HostRuntime) -> Result<(), Fail> {
+    are_said(rt.alloc(), &UNSHOWN)
+}
+
+const GONE_ON: [Case; 4] = [
+    ("an equal link covers", Pair, Some((Later, Some(1))), COVERS),
+    ("a greater one is news", Pair, Some((Later, Some(2))), STALE),
+    ("a smaller one skips", Pair, Some((Later, Some(0))), SKIPS),
+    ("and so does none", Pair, Some((Later, None)), SKIPS),
+];
+
 #[test]
 fn a_member_that_has_gone_on_covers_or_skips(rt: HostRuntime) -> Result<(), Fail> {
-    let alloc = rt.alloc();
-    let covered = Said::Copies(other());
-    let skipped = Said::Copies(Candidate::opening());
-    let stale = Said::Refuses(PlanFail::Stale(HIGH));
-    let equal = said_beside(alloc, later(), Some(other().stamp))?;
-    let greater = said_beside(alloc, later(), Some(stamp(2, false)))?;
-    let smaller = said_beside(alloc, later(), Some(stamp(0, false)))?;
-    let absent = said_beside(alloc, later(), None)?;
-    all_hold(&[
-        (equal == covered, "an equal link covers, and does not skip"),
-        (greater == stale, "a greater one is news of the target"),
-        (smaller == skipped, "a smaller one skips"),
-        (absent == skipped, "and so does none"),
-    ])
+    are_said(rt.alloc(), &GONE_ON)
 }
+
+const STAYS: [Case; 3] = [
+    ("an equal link covers", Pair, Some((Pair, Some(1))), COVERS),
+    (
+        "a smaller one is less",
+        Pair,
+        Some((Pair, Some(0))),
+        NEEDS_HIGH,
+    ),
+    ("and so is none", Pair, Some((Pair, None)), NEEDS_HIGH),
+];
 
 #[test]
 fn a_member_that_stays_covers_by_its_link_alone(rt: HostRuntime) -> Result<(), Fail> {
-    let alloc = rt.alloc();
-    let covered = Said::Copies(other());
-    let needed = Said::Refuses(PlanFail::Needs(HIGH));
-    let equal = said_beside(alloc, other(), Some(other().stamp))?;
-    let smaller = said_beside(alloc, other(), Some(stamp(0, false)))?;
-    let absent = said_beside(alloc, other(), None)?;
-    all_hold(&[
-        (equal == covered, "an equal link covers"),
-        (smaller == needed, "a smaller one tells too little"),
-        (absent == needed, "and so does none"),
-    ])
+    are_said(rt.alloc(), &STAYS)
 }

@@ -1,7 +1,8 @@
 ghost use Rattle.std.specs.Prelude.{◌<◌};
 
 use super::class::class_in;
-use super::history::{OBJECT, one_object, put};
+use super::history::OBJECT;
+use super::made::{one_object, put_entry};
 use qu_base::{Bounds, ClientId, Digest, List};
 use qu_class::Class;
 use qu_history::{Sealed, Sets};
@@ -49,41 +50,48 @@ fn stamp_at(time: u64, barrier: bool, client: u16) -> Stamp {
 /// The histories of a quorum up to all replicas. Each follows what is common to them as far as it comes, and leaves
 /// it now and then, in some sets more often than in others.
 fn random_sets(alloc: Global, words: &mut Lcg64Xsh32, bounds: &Bounds) -> Result<Sets, Fail> {
-    let common = [words.next_word() % 10, words.next_word() % 10];
-    let loyalty = LOYALTIES[words.next_word() as usize % LOYALTIES.len()];
-    let missing = words.next_word() % (u32::from(bounds.b()) + 1);
     let mut entries = List::new(alloc);
-    for place in 0..u32::from(bounds.n()) {
-        if place >= missing {
-            put_random(alloc, words, &common, loyalty, &mut entries)?;
-        }
-    }
-    one_object(alloc, entries)
+    put_random(alloc, words, bounds, &mut entries)?;
+    one_object(alloc, OBJECT, entries)
 }
 
-/// Puts a history at the end. A kind of candidate from 8 on stands for none.
 fn put_random(
     alloc: Global,
     words: &mut Lcg64Xsh32,
-    common: &[u32; 2],
-    loyalty: u32,
+    bounds: &Bounds,
     entries: &mut List<Sealed>,
 ) -> Result<(), Fail> {
-    let mut candidates = List::new(alloc);
-    let mut time = 1;
-    for kind in common {
-        let strays = words.next_word() & loyalty == 0;
-        let kind = if strays {
-            words.next_word() % 10
-        } else {
-            *kind
-        };
-        if kind < 8 {
-            candidates.push(candidate_of(time, kind))?;
+    let common = [words.next_word() % 10, words.next_word() % 10];
+    let loyalty = LOYALTIES[words.next_word() as usize % LOYALTIES.len()];
+    let missing = words.next_word() % (u32::from(bounds.b()) + 1);
+    for replica in 0..bounds.n() {
+        if u32::from(replica) >= missing {
+            let first = random_candidate(words, loyalty, 1, common[0]);
+            let second = random_candidate(words, loyalty, 2, common[1]);
+            put_entry(alloc, entries, OBJECT, replica, &[first, second])?;
         }
-        time = 2;
     }
-    put(alloc, entries, 1, candidates.as_slice())
+    Ok(())
+}
+
+/// A candidate of this time, of the kind that is common or of another one. A kind from 8 on stands for none.
+fn random_candidate(
+    words: &mut Lcg64Xsh32,
+    loyalty: u32,
+    time: u64,
+    common: u32,
+) -> Option<Candidate> {
+    let strays = words.next_word() & loyalty == 0;
+    let kind = if strays {
+        words.next_word() % 10
+    } else {
+        common
+    };
+    if kind < 8 {
+        Some(candidate_of(time, kind))
+    } else {
+        None
+    }
 }
 
 /// The class by the table: all candidates in their order, each with the number of entries that hold it.

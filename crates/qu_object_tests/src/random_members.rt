@@ -2,14 +2,14 @@
 
 ghost use Rattle.std.specs.Prelude.{◌<◌};
 
-use super::random_sets::{facts_beside, random_facts, random_sets};
+use super::random_sets::{put_beside, random_facts, random_sets};
 use super::slow_class::slow_class;
-use super::slow_plan::{Outcome, copies_just, slow_plan};
-use qu_base::{Bounds, ObjectId};
+use super::slow_plan::slow_plan;
+use qu_base::{Bounds, List, ObjectId};
 use qu_class::{Class, classify};
 use qu_history::Sets;
 use qu_plan::{CopyPlan, Fact, PlanFail, evidence, plan_copy};
-use qu_stamp::Group;
+use qu_stamp::{Candidate, Group};
 use qu_testing::holds;
 use rand_pcg::Lcg64Xsh32;
 use std::alloc::Global;
@@ -25,20 +25,24 @@ struct Met {
     needed: bool,
 }
 
-/// The plan of the first object, if it is of class COPY.
-fn plan_of_the_first(
-    alloc: Global,
-    sets: &Sets,
-    facts: &[Fact],
-    bounds: &Bounds,
-) -> Option<Result<CopyPlan, PlanFail>> {
-    let Class::Copy = classify(sets, ObjectId(0), bounds) else {
-        return None;
-    };
-    Some(plan_copy(alloc, sets, ObjectId(0), bounds, facts))
+impl Met {
+    fn meet_refusal(&mut self, refused: PlanFail) {
+        match refused {
+            PlanFail::Stale(_) => self.stale = true,
+            _ => self.needed = true,
+        }
+    }
+
+    fn meet_joint(&mut self, count: usize) {
+        if count == 1 {
+            self.alone = true;
+        } else {
+            self.joint = true;
+        }
+    }
 }
 
-/// Whether the plan of the first object, which is of class COPY, is that of the definition.
+/// Whether the plan of the first object is that of the definition, where the object is of class COPY.
 fn is_plan_of_the_definition(
     alloc: Global,
     sets: &Sets,
@@ -46,27 +50,43 @@ fn is_plan_of_the_definition(
     bounds: &Bounds,
     met: &mut Met,
 ) -> Result<bool, Fail> {
-    let slow = slow_plan(alloc, sets, facts, bounds, &mut met.covered)?;
-    let plan = plan_of_the_first(alloc, sets, facts, bounds);
-    Ok(match (plan, slow) {
-        (Some(Ok(plan)), Outcome::Joint(objects)) => {
-            if objects.len() == 1 {
-                met.alone = true;
-            } else {
-                met.joint = true;
-            }
-            copies_just(sets, facts, bounds, &plan, objects.as_slice())
-        }
-        (Some(Err(why)), Outcome::Refused(PlanFail::Stale(object))) => {
-            met.stale = true;
-            why == PlanFail::Stale(object)
-        }
-        (Some(Err(why)), Outcome::Refused(PlanFail::Needs(object))) => {
-            met.needed = true;
-            why == PlanFail::Needs(object)
-        }
-        _ => false,
-    })
+    let Class::Copy = classify(sets, ObjectId(0), bounds) else {
+        return Ok(false);
+    };
+    let mut joint = List::new(alloc);
+    let refused = slow_plan(sets, facts, bounds, &mut met.covered, &mut joint)?;
+    let plan = plan_copy(alloc, sets, ObjectId(0), bounds, facts);
+    if let Some(refused) = refused {
+        met.meet_refusal(refused);
+        return Ok(plan.err() == Some(refused));
+    }
+    met.meet_joint(joint.len());
+    Ok(is_copied(&plan, joint.as_slice()))
+}
+
+fn is_copied(plan: &Result<CopyPlan, PlanFail>, joint: &[(ObjectId, Candidate)]) -> bool {
+    match plan {
+        Ok(plan) => plan.joint.as_slice() == joint,
+        Err(_) => false,
+    }
+}
+
+/// Whether the plan of the first object is the same by these facts as by those, where the object is of class COPY.
+fn is_same_plan(
+    alloc: Global,
+    sets: &Sets,
+    facts: &[Fact],
+    others: &[Fact],
+    bounds: &Bounds,
+) -> bool {
+    let Class::Copy = classify(sets, ObjectId(0), bounds) else {
+        return false;
+    };
+    let plan = plan_copy(alloc, sets, ObjectId(0), bounds, others);
+    match plan_copy(alloc, sets, ObjectId(0), bounds, facts) {
+        Ok(first) => is_copied(&plan, first.joint.as_slice()),
+        Err(why) => plan.err() == Some(why),
+    }
 }
 
 /// Whether the plan of the first object is the same with other facts, if these are the same of its evidence.
@@ -78,14 +98,9 @@ fn rests_on_its_evidence(
     bounds: &Bounds,
 ) -> Result<bool, Fail> {
     let keys = evidence(alloc, sets, ObjectId(0), bounds)?;
-    let beside = facts_beside(alloc, words, facts, keys.as_slice())?;
-    let one = plan_of_the_first(alloc, sets, facts, bounds);
-    let two = plan_of_the_first(alloc, sets, beside.as_slice(), bounds);
-    Ok(match (one, two) {
-        (Some(Ok(one)), Some(Ok(two))) => one.joint.as_slice() == two.joint.as_slice(),
-        (Some(Err(one)), Some(Err(two))) => one == two,
-        _ => false,
-    })
+    let mut beside = List::new(alloc);
+    put_beside(alloc, words, facts, keys.as_slice(), &mut beside)?;
+    Ok(is_same_plan(alloc, sets, facts, beside.as_slice(), bounds))
 }
 
 /// The place of the class in the table; inline methods with a group stand apart.

@@ -1,9 +1,10 @@
 //! The row of a full history, which no run of a script reaches, by the acts that fill it.
 
-use qu_base::{Bounds, ClientId, List, ObjectId, Party, ReplicaId};
+use super::made::{history_with, keys, one_object};
+use qu_base::{ClientId, List, ObjectId, Party, ReplicaId};
 use qu_decoding::decode;
-use qu_frames::{Body, Frame, Refusal, Verdict, blank_mac};
-use qu_history::{History, Sealed, SetOf, Sets};
+use qu_frames::{Body, Frame, Letter, Refusal, Verdict, blank_mac};
+use qu_history::{Sealed, Sets};
 use qu_objects::{Act, KindName, Method};
 use qu_replica::Replica;
 use qu_seal::KeyRing;
@@ -13,11 +14,6 @@ use std::alloc::Global;
 use std::test::Fail;
 
 const COUNTER: ObjectId = ObjectId(0);
-
-/// The keys of six replicas and one client.
-fn keys() -> Result<KeyRing, Fail> {
-    Ok(KeyRing::derive(7, &Bounds::new(1)?, 1))
-}
 
 /// Replica 0 of six, with one counter.
 fn started(alloc: Global) -> Result<Replica, Fail> {
@@ -35,28 +31,32 @@ fn candidate(stamp: Stamp) -> Candidate {
 
 /// The history of a replica that ends with this stamp, sealed.
 fn entry(alloc: Global, keys: &KeyRing, replica: u8, latest: Stamp) -> Result<Sealed, Fail> {
-    let mut history = History::opening(alloc, COUNTER, ReplicaId(replica))?;
-    if latest.time > 0 {
-        history.add(candidate(latest))?;
-    }
+    let above = if latest.time > 0 {
+        Some(candidate(latest))
+    } else {
+        None
+    };
+    let history = history_with(alloc, COUNTER, replica, &[above])?;
     Ok(history.sealed(alloc, keys)?)
 }
 
-/// Such histories of five replicas.
-fn entries(alloc: Global, keys: &KeyRing, latest: Stamp) -> Result<List<Sealed>, Fail> {
-    let mut entries = List::new(alloc);
+/// Puts such histories of five replicas.
+fn put_entries(
+    alloc: Global,
+    keys: &KeyRing,
+    latest: Stamp,
+    entries: &mut List<Sealed>,
+) -> Result<(), Fail> {
     for replica in 0..5 {
         entries.push(entry(alloc, keys, replica, latest)?)?;
     }
-    Ok(entries)
+    Ok(())
 }
 
 fn sets(alloc: Global, keys: &KeyRing, latest: Stamp) -> Result<Sets, Fail> {
-    let set = SetOf {
-        object: COUNTER,
-        entries: entries(alloc, keys, latest)?,
-    };
-    Ok(Sets::new(alloc, List::one(alloc, set)?)?.ok_or("no sets")?)
+    let mut entries = List::new(alloc);
+    put_entries(alloc, keys, latest, &mut entries)?;
+    one_object(alloc, COUNTER, entries)
 }
 
 fn add_one(alloc: Global) -> Result<Body, Fail> {
@@ -87,9 +87,12 @@ fn is_refusal(frame: &Frame) -> bool {
     }
 }
 
-/// Whether the text is such a frame.
-fn tells_full(alloc: Global, text: &[u8]) -> Result<bool, Fail> {
-    match decode(alloc, text) {
+/// Whether the first of these letters has such a frame.
+fn tells_full(alloc: Global, letters: &[Letter]) -> Result<bool, Fail> {
+    let [letter, ..] = letters else {
+        return Err("nothing is sent".into());
+    };
+    match decode(alloc, letter.text.as_slice()) {
         Ok(frame) => Ok(is_refusal(&frame)),
         Err(_) => Err("no frame".into()),
     }
@@ -103,10 +106,10 @@ fn is_full(
     number: u64,
     latest: Stamp,
 ) -> Result<bool, Fail> {
-    let text = request(alloc, keys, number, sets(alloc, keys, latest)?)?;
+    let sets = sets(alloc, keys, latest)?;
+    let text = request(alloc, keys, number, sets)?;
     let letters = replica.step(text.as_slice())?;
-    let letter = letters.get(0).ok_or("nothing is sent")?;
-    tells_full(alloc, letter.text.as_slice())
+    tells_full(alloc, letters.as_slice())
 }
 
 fn latest(replica: &Replica) -> Stamp {
@@ -116,22 +119,18 @@ fn latest(replica: &Replica) -> Stamp {
     }
 }
 
-/// Whether 1,023 acts are carried out, one upon the other.
-fn are_added(alloc: Global, keys: &KeyRing, replica: &mut Replica) -> Result<bool, Fail> {
+/// 1,023 acts are carried out, one upon the other, and one more is refused.
+fn fills(alloc: Global, keys: &KeyRing, replica: &mut Replica) -> Result<(), Fail> {
     for number in 1..1024 {
         let above = latest(replica);
-        if is_full(alloc, keys, replica, number, above)? {
-            return Ok(false);
-        }
+        holds(
+            !is_full(alloc, keys, replica, number, above)?,
+            "a candidate for each act",
+        )?;
     }
-    Ok(latest(replica).time == 1023)
-}
-
-fn fills(alloc: Global, keys: &KeyRing, replica: &mut Replica) -> Result<(), Fail> {
-    holds(are_added(alloc, keys, replica)?, "a candidate for each act")?;
     let above = latest(replica);
     holds(
-        is_full(alloc, keys, replica, 1024, above)?,
+        is_full(alloc, keys, replica, 1024, above)? && above.time == 1023,
         "no room for one more",
     )
 }

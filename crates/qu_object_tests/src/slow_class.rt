@@ -5,25 +5,18 @@ use qu_class::Class;
 use qu_history::Sets;
 use qu_stamp::{Candidate, Stamp};
 
-/// The greatest candidate of this kind that so many histories hold.
-fn greatest(sets: &Sets, object: ObjectId, barrier: bool, least: u8) -> Option<Candidate> {
-    let mut best = None;
+/// The greatest candidate of this kind that so many histories hold, the opening one where there is none.
+fn greatest(sets: &Sets, object: ObjectId, barrier: bool, least: u8) -> Candidate {
+    let mut best = Candidate::opening();
     for entry in sets.find(object) {
         for held in entry.history.candidates() {
             let passes = held.stamp.barrier == barrier && sets.count(object, held) >= least;
-            if passes && is_above(held, &best) {
-                best = Some(*held);
+            if passes && best.is_before(held) {
+                best = *held;
             }
         }
     }
     best
-}
-
-pub(super) fn is_above(held: &Candidate, best: &Option<Candidate>) -> bool {
-    match best {
-        Some(best) => best.is_before(held),
-        None => true,
-    }
 }
 
 fn latest(sets: &Sets, object: ObjectId) -> Stamp {
@@ -39,7 +32,7 @@ fn latest(sets: &Sets, object: ObjectId) -> Stamp {
 }
 
 fn base_of(sets: &Sets, object: ObjectId, bounds: &Bounds) -> Candidate {
-    greatest(sets, object, false, bounds.r()).unwrap_or(Candidate::opening())
+    greatest(sets, object, false, bounds.r())
 }
 
 /// The class by its table.
@@ -52,16 +45,14 @@ pub(super) fn slow_class(sets: &Sets, object: ObjectId, bounds: &Bounds) -> Clas
     if base.stamp == latest {
         return inline_class(sets, base, bounds);
     }
-    match greatest(sets, object, true, bounds.r()) {
-        Some(barrier) if barrier.stamp == latest => {
-            if sets.count(object, &barrier) >= bounds.q() {
-                Class::Copy
-            } else {
-                Class::InlineBarrier(barrier)
-            }
-        }
-        _ => Class::Barrier { prior: base.stamp },
+    let barrier = greatest(sets, object, true, bounds.r());
+    if barrier.stamp != latest {
+        return Class::Barrier { prior: base.stamp };
     }
+    if sets.count(object, &barrier) >= bounds.q() {
+        return Class::Copy;
+    }
+    Class::InlineBarrier(barrier)
 }
 
 /// The group rule: first all objects are looked at for one that is absent, and then for one that disagrees.

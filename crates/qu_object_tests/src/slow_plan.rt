@@ -1,13 +1,11 @@
 //! The plan of a copy by facts, plain and slow.
 
-use super::slow_class::{is_above, slow_class};
-use qu_base::{Bounds, List, ObjectId};
+use super::slow_class::slow_class;
+use qu_base::{Bounds, List, NoMemory, ObjectId};
 use qu_class::Class;
 use qu_history::Sets;
-use qu_plan::{CopyPlan, Fact, PlanFail};
+use qu_plan::{Fact, PlanFail};
 use qu_stamp::{Candidate, Stamp};
-use std::alloc::Global;
-use std::test::Fail;
 
 /// The link to another object that a version of this one has.
 fn slow_link(facts: &[Fact], object: ObjectId, stamp: Stamp, other: ObjectId) -> Option<Stamp> {
@@ -67,23 +65,24 @@ fn is_passed(
     }
 }
 
-/// The greatest candidate without barrier that may be repaired and is not skipped.
+/// The greatest candidate without barrier that may be repaired and is not skipped, the opening one where there is none.
 fn slow_chosen(sets: &Sets, facts: &[Fact], object: ObjectId, bounds: &Bounds) -> Candidate {
-    let mut best = None;
+    let mut best = Candidate::opening();
     for entry in sets.find(object) {
         for held in entry.history.candidates() {
             let shown = !held.stamp.barrier && sets.count(object, held) >= bounds.r();
-            if shown && is_above(held, &best) && !slow_skipped(sets, facts, object, held, bounds) {
-                best = Some(*held);
+            if shown && best.is_before(held) && !slow_skipped(sets, facts, object, held, bounds) {
+                best = *held;
             }
         }
     }
-    best.unwrap_or(Candidate::opening())
+    best
 }
 
 /// What becomes of a member of what is chosen on the target.
 enum Fate {
-    Joins,
+    /// It is copied too: this candidate.
+    Joins(Candidate),
     Covered,
     Stale,
     Needed,
@@ -97,71 +96,48 @@ fn fate_of(
     chosen: &Candidate,
     bounds: &Bounds,
 ) -> Option<Fate> {
-    let stamp = chosen.member(object)?;
-    match slow_class(sets, object, bounds) {
+    let Some(stamp) = chosen.member(object) else {
+        return None;
+    };
+    Some(match slow_class(sets, object, bounds) {
         Class::Copy => {
             let other = slow_chosen(sets, facts, object, bounds);
             if other.stamp == stamp && other.group == chosen.group {
-                Some(Fate::Joins)
+                Fate::Joins(other)
             } else {
-                Some(Fate::Needed)
+                Fate::Needed
             }
         }
         Class::Method(version) => match slow_link(facts, object, version.stamp, target) {
-            Some(link) if link == stamp => Some(Fate::Covered),
-            Some(link) if stamp.is_below(&link) => Some(Fate::Stale),
-            _ => Some(Fate::Needed),
+            Some(link) if link == stamp => Fate::Covered,
+            Some(link) if stamp.is_below(&link) => Fate::Stale,
+            _ => Fate::Needed,
         },
-        _ => Some(Fate::Needed),
-    }
+        _ => Fate::Needed,
+    })
 }
 
-/// What is made of the first object, where it is of class COPY, by the text of the plan.
-#[derive(Drop)]
-pub(super) enum Outcome {
-    /// It is copied with these others.
-    Joint(List<ObjectId>),
-    Refused(PlanFail),
-}
-
+/// Why the first object is not copied, where it is of class COPY, by the text of the plan. Where there is nothing
+/// against it, what is copied stands behind what was there: the object and the others, each with its candidate.
 pub(super) fn slow_plan(
-    alloc: Global,
     sets: &Sets,
     facts: &[Fact],
     bounds: &Bounds,
     covered: &mut bool,
-) -> Result<Outcome, Fail> {
+    joint: &mut List<(ObjectId, Candidate)>,
+) -> Result<Option<PlanFail>, NoMemory> {
     let target = ObjectId(0);
     let chosen = slow_chosen(sets, facts, target, bounds);
-    let mut joint = List::one(alloc, target)?;
+    joint.push((target, chosen))?;
     for number in 1..64 {
         let object = ObjectId(number);
         match fate_of(sets, facts, target, object, &chosen, bounds) {
-            Some(Fate::Joins) => joint.push(object)?,
+            Some(Fate::Joins(other)) => joint.push((object, other))?,
             Some(Fate::Covered) => *covered = true,
-            Some(Fate::Stale) => return Ok(Outcome::Refused(PlanFail::Stale(object))),
-            Some(Fate::Needed) => return Ok(Outcome::Refused(PlanFail::Needs(object))),
+            Some(Fate::Stale) => return Ok(Some(PlanFail::Stale(object))),
+            Some(Fate::Needed) => return Ok(Some(PlanFail::Needs(object))),
             None => {}
         }
     }
-    Ok(Outcome::Joint(joint))
-}
-
-/// Whether the plan copies on just these objects what is chosen there.
-pub(super) fn copies_just(
-    sets: &Sets,
-    facts: &[Fact],
-    bounds: &Bounds,
-    plan: &CopyPlan,
-    objects: &[ObjectId],
-) -> bool {
-    if plan.joint.len() != objects.len() {
-        return false;
-    }
-    for ((object, candidate), other) in plan.joint.iter().zip(objects) {
-        if object != other || *candidate != slow_chosen(sets, facts, *object, bounds) {
-            return false;
-        }
-    }
-    true
+    Ok(None)
 }

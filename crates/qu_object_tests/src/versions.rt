@@ -2,7 +2,7 @@ use kind_counter::Counter;
 use qu_base::{ClientId, Digest, List, ObjectId};
 use qu_objects::{KindName, ObjState, Value};
 use qu_stamp::Stamp;
-use qu_testing::holds;
+use qu_testing::{all_hold, holds};
 use qu_versions::{Prepared, Stored, VersionStore};
 use std::alloc::Global;
 use std::test::Fail;
@@ -32,59 +32,75 @@ fn is_missing(store: &VersionStore) -> Result<bool, Fail> {
     Ok(missing.as_slice() == [(OBJECT, later())].as_slice())
 }
 
-fn put(alloc: Global, store: &mut VersionStore, number: u64) -> Result<(), Fail> {
-    Ok(store.put(OBJECT, later(), state_of(alloc, number))?)
-}
-
 /// The number of the counter that a version is.
-fn number_of(state: &ObjState) -> Option<u64> {
-    match &state.value {
-        Value::Counter(counter) => Some(counter.number()),
+fn number_under(store: &VersionStore, object: ObjectId, stamp: &Stamp) -> Option<u64> {
+    match store.get(object, stamp) {
+        Some(
+            ObjState {
+                value: Value::Counter(counter),
+                ..
+            },
+        ) => Some(counter.number()),
         _ => None,
     }
 }
 
-fn is_five(store: &VersionStore) -> bool {
-    match store.get(OBJECT, &later()) {
-        Some(state) => number_of(state) == Some(5),
-        None => false,
+fn keeps_the_first(alloc: Global, store: &mut VersionStore) -> Result<(), Fail> {
+    holds(is_missing(store)?, "the later is missing")?;
+    for number in [5, 7] {
+        store.put(OBJECT, later(), state_of(alloc, number))?;
     }
+    holds(
+        number_under(store, OBJECT, &later()) == Some(5),
+        "the first stays",
+    )
 }
 
 #[test]
 fn the_first_version_under_a_stamp_stays(rt: HostRuntime) -> Result<(), Fail> {
-    let mut store = VersionStore::fresh(rt.alloc(), &[KindName::Counter])?;
-    holds(is_missing(&store)?, "the later is missing")?;
-    put(rt.alloc(), &mut store, 5)?;
-    put(rt.alloc(), &mut store, 7)?;
-    holds(is_five(&store), "the first stays")
+    keeps_the_first(
+        rt.alloc(),
+        &mut VersionStore::fresh(rt.alloc(), &[KindName::Counter])?,
+    )
 }
 
-/// Puts a version of the object with this number, and tells the number of the one that is found.
-fn found_of(alloc: Global, store: &mut VersionStore, number: u16) -> Result<Option<u64>, Fail> {
-    let object = ObjectId(number);
-    let stamp = Stamp::opening();
-    let state = state_of(alloc, 5);
+/// What is prepared of an object: the number 5 under the opening stamp.
+fn prepared_of(alloc: Global, object: ObjectId) -> Result<Prepared, Fail> {
     let stored = Stored {
         object,
-        stamp,
-        state,
+        stamp: Stamp::opening(),
+        state: state_of(alloc, 5),
     };
-    let prepared = Prepared::one(alloc, stored.copy(alloc)?)?;
+    let copy = stored.copy(alloc)?;
+    Ok(Prepared::one(alloc, copy)?)
+}
+
+/// Puts it, and tells the number of the version that is found.
+fn found_of(
+    alloc: Global,
+    store: &mut VersionStore,
+    object: ObjectId,
+) -> Result<Option<u64>, Fail> {
+    let prepared = prepared_of(alloc, object)?;
     if store.has_place(&prepared, &Prepared::none(alloc)) {
         store.put_prepared(prepared);
     }
-    Ok(match store.get(object, &stamp) {
-        Some(held) => number_of(held),
-        None => None,
-    })
+    Ok(number_under(store, object, &Stamp::opening()))
+}
+
+fn prepares(alloc: Global, store: &mut VersionStore) -> Result<(), Fail> {
+    let held = found_of(alloc, store, OBJECT)?;
+    let prepared = found_of(alloc, store, ObjectId(1))?;
+    all_hold(&[
+        (held == Some(0), "the held one stays"),
+        (prepared == Some(5), "the prepared one"),
+    ])
 }
 
 #[test]
 fn what_is_prepared_stands_behind_what_is_held(rt: HostRuntime) -> Result<(), Fail> {
-    let mut store = VersionStore::fresh(rt.alloc(), &[KindName::Counter])?;
-    let held = found_of(rt.alloc(), &mut store, 0)?;
-    holds(held == Some(0), "the held one stays")?;
-    let prepared = found_of(rt.alloc(), &mut store, 1)?;
-    holds(prepared == Some(5), "the prepared one")
+    prepares(
+        rt.alloc(),
+        &mut VersionStore::fresh(rt.alloc(), &[KindName::Counter])?,
+    )
 }
