@@ -12,11 +12,11 @@ ghost use Rattle.qu_mends.specs.Mending.{is_held_part, is_overtaken, is_late, is
 use super::course::course_of;
 use super::{Accepted, Mending, Part};
 use qu_base::{Bounds, ClientId, Digest, List, NoMemory, ObjectId};
-use qu_verdicts::Refusal;
 use qu_history::Sets;
 use qu_plan::Fact;
 use qu_remedies::{Remedy, added, stored};
 use qu_stamp::{Candidate, Group, LAST_TIME, Stamp};
+use qu_verdicts::Refusal;
 use std::alloc::Global;
 
 /// A request to mend an object, with what its culled sets say of it.

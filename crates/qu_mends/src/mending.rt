@@ -1,7 +1,7 @@
 use super::Accepted;
 use qu_base::{List, ObjectId};
-use qu_verdicts::Refusal;
 use qu_stamp::Stamp;
+use qu_verdicts::Refusal;
 
 /// What a replica makes of a request to mend an object.
 #[derive(Drop)]
