@@ -67,7 +67,7 @@ pub fn stored(
     version: Option<&ObjState>,
 ) -> Result<Option<ObjState>, NoMemory>
     ensures { IfOk result (λ stored. stored
-        ≡ stored_by object candidate.now remedy.now (option_copied version)) }
+        ≡ stored_by object candidate.now remedy.now (option_copied version.entry)) }
 {
     match (remedy, version) {
         (Remedy::Fresh { barrier: false, .. }, Some(version)) => {
