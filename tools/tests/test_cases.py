@@ -37,12 +37,12 @@ class Cases(unittest.TestCase):
         write(os.path.join(self.kit, "KIT-ID"), "one\n")
 
     def make_kit(self):
-        """A toolchain whose clang tells its words, and whose linker writes a text."""
+        """A toolchain whose clang tells its words, and whose linker writes its own into what it makes."""
         for name in ("rt", "rtlib.py", "rattle"):
             write(os.path.join(self.kit, "bin", name), f"the {name}\n")
         tools = os.path.join(self.kit, "toolchain", "bin")
         write(os.path.join(tools, "clang"), '#!/bin/sh\necho "$@"\n', 0o755)
-        write(os.path.join(tools, "ld.lld"), '#!/bin/sh\n[ "$1" != bad ] && echo linked > "$3"\n', 0o755)
+        write(os.path.join(tools, "ld.lld"), '#!/bin/sh\n[ "$1" != bad ] && echo "$@" > "$3"\n', 0o755)
         write(os.path.join(self.kit, "toolchain", "lib", "libc.so.6"), "")
         self.program = os.path.join(self.room, "program")
         other = os.path.join(self.room, "other")
@@ -52,18 +52,30 @@ class Cases(unittest.TestCase):
     def call(self, *words):
         return subprocess.run(words, cwd=self.room, stdout=subprocess.PIPE, text=True)
 
-    def test_the_other_toolchain_optimises_and_has_no_sanitizer(self):
-        clang = os.path.join(self.make_kit(), "toolchain", "bin", "clang")
-        told = self.call(clang, "-c", "-O0", "-fsanitize=address", "-o", "a file.o").stdout
-        self.assertEqual(told, "-c -O1 -o a file.o\n")
+    def test_the_program_is_put_aside_and_all_else_is_compiled(self):
+        other = self.make_kit()
+        clang, module = (os.path.join(other, *it) for it in (("toolchain", "bin", "clang"), ("module.bc",)))
+        write(os.path.join(self.room, "a module.bc"), "a module\n")
+        told = self.call(clang, "-c", "-O0", "a module.bc", "-o", "an object.o").stdout
+        self.assertEqual(told, "-c -O0 a module.bc -o an object.o\n")
+        self.assertFalse(os.path.exists(module))
+        words = ("--target=x", "-c", "a module.bc", "-o", "an object.o", "-O0", "-fsanitize=address")
+        told = self.call(clang, *words).stdout
+        self.assertEqual(told, "--target=x -c -x assembler /dev/null -o an object.o\n")
+        with open(module, encoding="utf-8") as text:
+            self.assertEqual(text.read(), "a module\n")
 
-    def test_what_is_linked_is_kept(self):
-        linker = os.path.join(self.make_kit(), "toolchain", "bin", "ld.lld")
+    def test_the_linker_compiles_and_what_it_links_is_kept(self):
+        other = self.make_kit()
+        linker = os.path.join(other, "toolchain", "bin", "ld.lld")
         self.assertNotEqual(self.call(linker, "bad", "-o", "made").returncode, 0)
         self.assertFalse(os.path.exists(self.program))
-        self.assertEqual(self.call(linker, "-pie", "-o", "made", "input").returncode, 0)
+        self.assertEqual(self.call(linker, "-pie", "-o", "made", "--threads=1").returncode, 0)
         with open(self.program, encoding="utf-8") as text:
-            self.assertEqual(text.read(), "linked\n")
+            words = text.read().split()
+        self.assertEqual(words[:5], ["-pie", "-o", "made", "--threads=1", os.path.join(other, "module.bc")])
+        self.assertEqual(words[5], f"--threads={self.tool.PARTS}")
+        self.assertIn(f"--lto-newpm-passes={self.tool.PASSES}", words)
 
     def test_all_else_is_as_it_was_and_what_looks_for_its_place_is_copied(self):
         other = self.make_kit()
