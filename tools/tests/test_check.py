@@ -46,9 +46,9 @@ class Refused(unittest.TestCase):
         opens = "  unfolding quorum\n"
         texts = {"crates/qu_chain/proofs/A.antt": opens, "crates/qu_base/proofs/A.antt": opens}
         self.assertEqual(len(self.found(self.check.check_sizes, texts)), 1)
-        texts = {"crates/qu_pick/src/a.rt": "#[tactic(auto, unfolding(a::replicas, b))]\n"}
+        texts = {"crates/qu_client/src/a.rt": "#[tactic(auto, unfolding(a::replicas, b))]\n"}
         self.assertEqual(len(self.found(self.check.check_sizes, texts)), 1)
-        texts = {"crates/qu_pick/src/a.rt": "#[tactic(auto, unfolding(a::all_replicas))]\n"}
+        texts = {"crates/qu_client/src/a.rt": "#[tactic(auto, unfolding(a::all_replicas))]\n"}
         self.assertEqual(self.found(self.check.check_sizes, texts), [])
 
     def test_a_second_meaning(self):
@@ -108,9 +108,9 @@ class Refused(unittest.TestCase):
         self.assertEqual(len(self.found(self.check.check_documents, texts, {"qu_base": (1, [])})), 2)
 
     def test_a_crate_that_nothing_imports(self):
-        texts = self.changed("crates.txt", "qu_flow: qu_base ", "qu_flow: qu_base qu_seal ")
+        texts = self.changed("crates.txt", "qu_script: qu_base ", "qu_script: qu_base qu_seal ")
         what = self.found(self.check.check_crates, texts, self.check.read_crates(texts))
-        self.assertEqual(what, ["qu_flow does not import qu_seal"])
+        self.assertEqual(what, ["qu_script does not import qu_seal"])
 
     def test_this_repository(self):
         self.assertEqual(self.found(self.check.look), [])

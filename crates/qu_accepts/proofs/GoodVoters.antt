@@ -9,10 +9,10 @@ use Rattle.std.proofs.lemmas.List.Elements.{All-contains, All-head}
 use Rattle.std.proofs.lemmas.List.Folds.{Any-from_list_any}
 use Rattle.qu_base.specs.declared.limits.TheConstants.{REPLICA_IDS}
 use Rattle.qu_base.specs.declared.party.ReplicaId.{ReplicaId}
-use Rattle.qu_vote.specs.declared.vote.Vote.{Vote}
-use Rattle.qu_vote.specs.Tally.{has_voted, is_for, replicas_for, count_of}
-use Rattle.qu_sync.specs.Fetching.{Answers, same_bytes, identical_answers, completes}
-use Rattle.qu_sync.proofs.EqualBytes.{same_as_itself}
+use Rattle.qu_waiting.specs.declared.vote.Vote.{Vote}
+use Rattle.qu_waiting.specs.Tally.{has_voted, is_for, replicas_for, count_of}
+use Rattle.qu_waiting.specs.Fetching.{Answers, same_bytes, identical_answers, completes}
+use Rattle.qu_waiting.proofs.EqualBytes.{same_as_itself}
 use Rattle.qu_claims.specs.Count.{count}
 use Rattle.qu_chain.proofs.Counting.{bit, count-both, count-not, count-le, count-some, passing, Passing, bit}
 

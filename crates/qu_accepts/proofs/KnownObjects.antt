@@ -33,7 +33,7 @@ use Rattle.qu_runs.proofs.Worlds.Objects.{run_has, found_within}
 use Rattle.qu_grounds.proofs.ActAcceptance.{accepted_in, AcceptsNothing, unknown, carried, stays, alike_candidates}
 use Rattle.qu_frames.specs.declared.frame.Body.{Body}
 use Rattle.qu_replica.specs.Growth.{HoldsAlike}
-use Rattle.qu_lacking.specs.Waiting.{TakenRequest}
+use Rattle.qu_waiting.specs.Waiting.{TakenRequest}
 
 -- ---- the rows
 

@@ -20,7 +20,7 @@ use Rattle.qu_frames.specs.Formats.{frame_form}
 use Rattle.qu_frames.specs.Signing.{brought}
 use Rattle.qu_frames.specs.declared.frame.Frame.{Frame}
 use Rattle.qu_mends.specs.Table.{candidates_in}
-use Rattle.qu_lacking.specs.Waiting.{TakenRequest, request_frame_of}
+use Rattle.qu_waiting.specs.Waiting.{TakenRequest, request_frame_of}
 use Rattle.qu_rows.specs.Rows.{asked_of}
 use Rattle.qu_rows.specs.State.{ReplicaState, own_candidates}
 use Rattle.qu_replica.specs.Step.{learned, handled, if_handled, replica_on_frame, replica_on_received}

@@ -24,7 +24,7 @@ use Rattle.qu_rows.specs.declared.decision.Decision.{Decision}
 use Rattle.qu_rows.specs.declared.decision.Decision.TheVariants as decision
 use Rattle.qu_rows.specs.Rows.{asked_at, decision_on}
 use Rattle.qu_rows.specs.State.{ReplicaState}
-use Rattle.qu_lacking.specs.Waiting.{TakenRequest}
+use Rattle.qu_waiting.specs.Waiting.{TakenRequest}
 use Rattle.qu_fitting.specs.Fits.{StateFits, VersionFits}
 use Rattle.qu_fitting.specs.Holding.{accept_all}
 use Rattle.qu_replica.specs.Step.{answer_frame, fetches_from, fetches_of, version_letter, version_letters, learned, handled, carried_out, if_handled, replica_on_frame, replica_on_received}
@@ -32,8 +32,8 @@ use Rattle.qu_fitting.proofs.FitAccepted.{version_fits}
 use Rattle.qu_fitting.proofs.FitRequests.{blank_sized}
 use Rattle.qu_fitting.proofs.FitVersions.{version-spelled}
 use Rattle.qu_client.specs.declared.state.ClientState.{ClientState}
-use Rattle.qu_counting.specs.declared.work.Work.{Work}
-use Rattle.qu_counting.specs.declared.whom.Whom.{Whom}
+use Rattle.qu_client.specs.declared.work.Work.{Work}
+use Rattle.qu_client.specs.declared.whom.Whom.{Whom}
 use Rattle.qu_client.specs.Rounds.{request_of, requests}
 use Rattle.qu_client.proofs.Sent.{each_letter}
 use Rattle.qu_claims.specs.Carried.{Carries}

@@ -13,7 +13,7 @@ use Rattle.qu_base.specs.Bounds.{replicas}
 use Rattle.qu_base.proofs.ThresholdFacts.{replicas_are_few, replicas_are_count}
 use Rattle.qu_seal.specs.Keys.{Ring, has_party, verifies}
 use Rattle.qu_stamp.specs.declared.stamp.Stamp.{Stamp}
-use Rattle.qu_vote.specs.declared.vote.Vote.{Vote}
+use Rattle.qu_waiting.specs.declared.vote.Vote.{Vote}
 use Rattle.qu_objects.specs.declared.state.ObjState.{ObjState}
 use Rattle.qu_objects.specs.States.{state_form}
 use Rattle.qu_versions.specs.declared.stored.Stored.{Stored}
@@ -25,7 +25,7 @@ use Rattle.qu_frames.specs.Formats.{frame_form}
 use Rattle.qu_frames.specs.Signing.{sender, brought, is_signed}
 use Rattle.qu_frames.proofs.Signed.{brought_is_decoded, brought_is_signed}
 use Rattle.qu_rows.specs.State.{ReplicaState}
-use Rattle.qu_lacking.specs.Waiting.{Running}
+use Rattle.qu_waiting.specs.Waiting.{Running}
 use Rattle.qu_fitting.specs.Fits.{StateFits, StepFits}
 use Rattle.qu_replica.specs.Step.{replica_on_received, replica_step}
 use Rattle.qu_fitting.proofs.FitState.{opening-fits}

@@ -10,9 +10,9 @@ use Rattle.qu_seal.specs.Keys.{Ring}
 use Rattle.qu_stamp.specs.declared.stamp.Stamp.{Stamp}
 use Rattle.qu_stamp.specs.Stamp.{same_stamp}
 use Rattle.qu_stamp.proofs.Order.{equal_by_same_stamp}
-use Rattle.qu_vote.specs.declared.vote.Vote.{Vote}
-use Rattle.qu_vote.specs.Tally.{has_voted}
-use Rattle.qu_sync.specs.Fetching.{Answers}
+use Rattle.qu_waiting.specs.declared.vote.Vote.{Vote}
+use Rattle.qu_waiting.specs.Tally.{has_voted}
+use Rattle.qu_waiting.specs.Fetching.{Answers}
 use Rattle.qu_objects.specs.declared.kind.KindName.{KindName}
 use Rattle.qu_objects.specs.declared.state.ObjState.{ObjState}
 use Rattle.qu_objects.specs.States.{state_form}
@@ -24,7 +24,7 @@ use Rattle.qu_rows.specs.declared.decision.Decision.{Decision}
 use Rattle.qu_rows.specs.declared.decision.Decision.TheVariants as decision
 use Rattle.qu_rows.specs.Rows.{asked_at, decision_on}
 use Rattle.qu_rows.specs.State.{ReplicaState}
-use Rattle.qu_lacking.specs.Waiting.{TakenRequest, Running}
+use Rattle.qu_waiting.specs.Waiting.{TakenRequest, Running}
 use Rattle.qu_fitting.specs.Holding.{accept, accept_all, replica_at_start}
 use Rattle.qu_waiting.specs.Slots.{is_running, fetch_under, with_fetch, with_fetches, with_vote, with_votes, without_fetch}
 use Rattle.qu_replica.specs.Step.{has_kind, is_found, with_found, with_told, learned, handled, carried_out, if_handled, replica_on_frame, replica_on_received}

@@ -15,8 +15,8 @@ use Rattle.qu_base.specs.Bounds.{replicas}
 use Rattle.qu_base.proofs.PrefixCodes.{one_spelling}
 use Rattle.qu_base.proofs.ThresholdFacts.{replicas_are_few}
 use Rattle.qu_stamp.specs.declared.stamp.Stamp.{Stamp}
-use Rattle.qu_vote.specs.declared.vote.Vote.{Vote}
-use Rattle.qu_sync.specs.Fetching.{same_bytes, completes}
+use Rattle.qu_waiting.specs.declared.vote.Vote.{Vote}
+use Rattle.qu_waiting.specs.Fetching.{same_bytes, completes}
 use Rattle.qu_objects.specs.declared.state.ObjState.{ObjState}
 use Rattle.qu_objects.specs.States.{state_form}
 use Rattle.qu_objects.proofs.StateLaws.{state-exact}
@@ -25,7 +25,7 @@ use Rattle.qu_frames.specs.declared.frame.Frame.TheVariants as frame
 use Rattle.qu_frames.specs.Signing.{brought}
 use Rattle.qu_frames.proofs.Signed.{brought_is_decoded}
 use Rattle.qu_rows.specs.State.{ReplicaState}
-use Rattle.qu_lacking.specs.Waiting.{Running}
+use Rattle.qu_waiting.specs.Waiting.{Running}
 use Rattle.qu_waiting.specs.Slots.{fetch_under}
 use Rattle.qu_replica.specs.Step.{is_found, completes_fetch, learned}
 use Rattle.qu_replica.proofs.States.Learning.{Learned, is_learned}

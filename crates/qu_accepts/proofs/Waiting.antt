@@ -13,7 +13,7 @@ use Rattle.qu_mends.specs.declared.accepted.Accepted.{Accepted}
 use Rattle.qu_rows.specs.declared.decision.Decision.{Decision}
 use Rattle.qu_rows.specs.declared.decision.Decision.TheVariants.{Answers, Waits}
 use Rattle.qu_rows.specs.Rows.{asked_at, decision_on}
-use Rattle.qu_lacking.specs.Waiting.{TakenRequest, Waiting, request_frame_of}
+use Rattle.qu_waiting.specs.Waiting.{TakenRequest, Waiting, request_frame_of}
 use Rattle.qu_rows.specs.State.{ReplicaState}
 use Rattle.qu_fitting.specs.Holding.{accept, accept_all}
 use Rattle.qu_waiting.specs.Slots.{lacks, first_waiting, without_request}

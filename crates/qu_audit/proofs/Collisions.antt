@@ -8,14 +8,14 @@ use Rattle.qu_seal.specs.Digesting.{digest_of}
 use Rattle.qu_trace.specs.declared.trace.Trace.{Trace}
 use Rattle.qu_trace.specs.Earliest.{IsUpTo}
 use Rattle.qu_claims.specs.Digested.{Text}
-use Rattle.qu_premise.specs.declared.digests.Digests.{Digests}
-use Rattle.qu_premise.specs.declared.digests.Seen.{Seen}
-use Rattle.qu_premise.specs.Answer.{texts_by, DoCollide, NoneCollideBefore, IsFirstCollision, UnforgedBefore}
-use Rattle.qu_premise.specs.Digesting.{digest_of_text, same_text}
-use Rattle.qu_premise.specs.Digests.{look, Notes, clash_with, clash, first_clash}
+use Rattle.qu_audit.specs.declared.digests.Digests.{Digests}
+use Rattle.qu_audit.specs.declared.digests.Seen.{Seen}
+use Rattle.qu_audit.specs.Answer.{texts_by, DoCollide, NoneCollideBefore, IsFirstCollision, UnforgedBefore}
+use Rattle.qu_audit.specs.Digesting.{digest_of_text, same_text}
+use Rattle.qu_audit.specs.Digests.{look, Notes, clash_with, clash, first_clash}
 use Rattle.qu_audit.specs.Past.{WasSeen, Knows}
-use Rattle.qu_premise.proofs.Clashes.{HasClash, clash_found, clash_least}
-use Rattle.qu_premise.proofs.Equalities.{decides_text}
+use Rattle.qu_audit.proofs.Clashes.{HasClash, clash_found, clash_least}
+use Rattle.qu_audit.proofs.Equalities.{decides_text}
 
 -- ---- one event more
 

@@ -25,14 +25,14 @@ use Rattle.qu_claims.specs.Times.{world_after}
 use Rattle.qu_runs.proofs.Events.Recording.{entries_after}
 use Rattle.qu_runs.proofs.Worlds.WorldGrowth.{world_after-none, world_after-grows}
 use Rattle.qu_audit.specs.declared.auditing.Past.{Past}
-use Rattle.qu_premise.specs.Answer.{UnforgedAt, UnforgedBefore, texts_of_entry, texts_by, DoCollide, NoneCollideBefore, IsFirstForged, IsFirstCollision}
-use Rattle.qu_premise.specs.Digesting.{same_text}
-use Rattle.qu_premise.specs.Digests.{look, Notes, first_clash}
-use Rattle.qu_premise.specs.Forging.{ShownLetter, letter_shown, shown_in_all, is_forged_given, is_forged}
+use Rattle.qu_audit.specs.Answer.{UnforgedAt, UnforgedBefore, texts_of_entry, texts_by, DoCollide, NoneCollideBefore, IsFirstForged, IsFirstCollision}
+use Rattle.qu_audit.specs.Digesting.{same_text}
+use Rattle.qu_audit.specs.Digests.{look, Notes, first_clash}
+use Rattle.qu_audit.specs.Forging.{ShownLetter, letter_shown, shown_in_all, is_forged_given, is_forged}
 use Rattle.qu_audit.specs.Past.{IsPast, Knows}
 use Rattle.qu_audit.proofs.Collisions.{knows_more, knows_nothing, none_at, first_collision}
-use Rattle.qu_premise.proofs.Equalities.{decides_text}
-use Rattle.qu_premise.proofs.Forgeries.{unforged_text, forged_text}
+use Rattle.qu_audit.proofs.Equalities.{decides_text}
+use Rattle.qu_audit.proofs.Forgeries.{unforged_text, forged_text}
 
 -- ---- what an event hands over
 

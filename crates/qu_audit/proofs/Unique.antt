@@ -9,8 +9,8 @@ use Rattle.qu_claims.specs.Premises.{MeetsPremises}
 use Rattle.qu_runs.proofs.Small.{contains_mapped}
 use Rattle.qu_trace.specs.declared.premises.Premises.{Premises}
 use Rattle.qu_trace.specs.declared.premises.Premises.TheVariants.{Hold, Forged, Collide}
-use Rattle.qu_premise.specs.Answer.{texts_of_entry, texts_by, DoCollide, IsFirstForged, IsFirstCollision, IsAnswer}
-use Rattle.qu_premise.proofs.Lists.{contained}
+use Rattle.qu_audit.specs.Answer.{texts_of_entry, texts_by, DoCollide, IsFirstForged, IsFirstCollision, IsAnswer}
+use Rattle.qu_audit.proofs.Lists.{contained}
 
 -- ---- what the premises say of one event
 

@@ -4,12 +4,12 @@ use Rattle.qu_base.specs.declared.party.Digest.{Digest}
 use Rattle.qu_trace.specs.declared.trace.Trace.{Trace}
 use Rattle.qu_claims.specs.Digested.{Text}
 use Rattle.qu_audit.specs.declared.auditing.Past.{Past}
-use Rattle.qu_premise.specs.declared.digests.Digests.{Digests}
-use Rattle.qu_premise.specs.declared.digests.Seen.{Seen}
-use Rattle.qu_premise.specs.Answer.{UnforgedBefore, NoneCollideBefore, texts_by}
-use Rattle.qu_premise.specs.Digesting.{digest_of_text}
-use Rattle.qu_premise.specs.Digests.{look}
-use Rattle.qu_premise.specs.Forging.{shown_in_all}
+use Rattle.qu_audit.specs.declared.digests.Digests.{Digests}
+use Rattle.qu_audit.specs.declared.digests.Seen.{Seen}
+use Rattle.qu_audit.specs.Answer.{UnforgedBefore, NoneCollideBefore, texts_by}
+use Rattle.qu_audit.specs.Digesting.{digest_of_text}
+use Rattle.qu_audit.specs.Digests.{look}
+use Rattle.qu_audit.specs.Forging.{shown_in_all}
 
 -- a text with this digest was seen not after this event
 pub record WasSeen (digests : Digests) (digest : Digest) (event : ℕ) : Type 0 where

@@ -2,12 +2,15 @@ ghost use Rattle.std.specs.Prelude.{◌≡◌, ◌<◌, ◌+◌, length, IfOk, M
 ghost use Rattle.qu_world.specs.Run.{IsRun};
 ghost use Rattle.qu_world.specs.State.{ring_of};
 ghost use Rattle.qu_trace.specs.declared.premises.Premises.{Premises as Answer};
-ghost use Rattle.qu_premise.specs.Answer.{IsAnswer};
+ghost use Rattle.qu_audit.specs.Answer.{IsAnswer};
 ghost use Rattle.qu_audit.specs.Past.{IsPast};
 
 use super::Premises;
+use crate::digests::Digests;
+use crate::forging::{is_forged, ring_of};
+use crate::shown::ShownSoFar;
+use crate::texts::texts_at;
 use qu_base::NoMemory;
-use qu_premise::{Digests, ShownSoFar, is_forged, ring_of, texts_at};
 use qu_seal::KeyRing;
 use qu_trace::DecodedTrace;
 use std::alloc::Global;

@@ -1,5 +1,5 @@
 use qu_base::{Bounds, ClientId, ObjectId, ReplicaId};
-use qu_pick::{Backoff, preferred};
+use qu_client::{Backoff, preferred};
 use qu_testing::{all_hold, holds};
 use std::test::Fail;
 

@@ -1,6 +1,6 @@
 use qu_base::{List, ReplicaId};
-use qu_sync::{Fetch, Fetching};
 use qu_testing::holds;
+use qu_waiting::{Fetch, Fetching};
 use std::alloc::Global;
 use std::test::Fail;
 

@@ -1,6 +1,6 @@
 use qu_base::ReplicaId;
 use qu_testing::{all_hold, holds};
-use qu_vote::{Tally, VoteFail};
+use qu_waiting::{Tally, VoteFail};
 use std::alloc::Global;
 use std::test::Fail;
 

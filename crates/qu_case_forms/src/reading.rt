@@ -2,8 +2,7 @@
 //! know nothing of it, and are proved fast.
 
 use qu_base::{Cursor, NoMemory, ObjectId, Party, ReadFail};
-use qu_decoding::{decode, receive};
-use qu_frames::Frame;
+use qu_frames::{Frame, decode, receive};
 use qu_history::{History, Sets, read_sets};
 use qu_objects::{Act, Answer, ObjState, Query, read_act, read_answer, read_query, read_state};
 use qu_seal::KeyRing;

@@ -1,7 +1,6 @@
 use super::program::{self, Program};
 use qu_case_forms::{Case, Named, NoAnswer, Told, answer_bytes, answer_generated, bytes_of};
-use qu_case_orders::answer_order;
-use qu_case_runs::answer_run;
+use qu_case_runs::{answer_order, answer_run};
 use std::alloc::Global;
 use std::rt::Files;
 

@@ -7,7 +7,7 @@ use Rattle.qu_frames.specs.Signing.{brought}
 use Rattle.qu_versions.specs.declared.stored.Stored.{Stored}
 use Rattle.qu_versions.specs.Versions.{version_at}
 use Rattle.qu_rows.specs.State.{ReplicaState}
-use Rattle.qu_lacking.specs.Waiting.{request_frame_of}
+use Rattle.qu_waiting.specs.Waiting.{request_frame_of}
 use Rattle.qu_replica.specs.Growth.{HoldsAlike}
 use Rattle.qu_replica.specs.Step.{handled, replica_on_frame}
 use Rattle.qu_trace.specs.declared.trace.Entry.{Entry}

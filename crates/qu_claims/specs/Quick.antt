@@ -30,8 +30,8 @@ use Rattle.qu_rows.specs.State.{ReplicaState, own_candidates, own_latest}
 use Rattle.qu_client.specs.declared.state.ClientState.{ClientState}
 use Rattle.qu_question.specs.Named.{operation_objects}
 use Rattle.qu_question.specs.Question.{sets_of}
-use Rattle.qu_counting.specs.declared.whom.Whom.TheVariants.{Preferred}
-use Rattle.qu_counting.specs.Whom.{is_asked, first_object}
+use Rattle.qu_client.specs.declared.whom.Whom.TheVariants.{Preferred}
+use Rattle.qu_client.specs.Whom.{is_asked, first_object}
 use Rattle.qu_question.specs.Kept.{unmarked}
 use Rattle.qu_trace.specs.declared.event.Event.{Event}
 use Rattle.qu_trace.specs.declared.event.Event.TheVariants.{Invoke, Deliver, Tick, Inject}

@@ -6,16 +6,16 @@ use Rattle.qu_script_words.specs.declared.bad.Bad.{Bad}
 use Rattle.qu_script.specs.Events.{sim_of}
 use Rattle.qu_trace.specs.declared.trace.Trace.{Trace}
 use Rattle.qu_language.specs.Script.{script_of}
-use Rattle.qu_language.specs.declared.limits.TheConstants.{SCRIPT_LIMIT}
-use Rattle.qu_words.specs.declared.command.Command.{Command}
-use Rattle.qu_words.specs.declared.command.Command.TheVariants.{Sim, Live, SimGen, Gen}
-use Rattle.qu_words.specs.declared.command.Telling.{Telling}
-use Rattle.qu_words.specs.declared.command.Telling.TheVariants.{Operations, Events, Digests, Bytes, Summary}
-use Rattle.qu_words.specs.Words.{TellsOperations}
+use Rattle.qu_io.specs.declared.limits.TheConstants.{SCRIPT_LIMIT}
+use Rattle.qu_notation.specs.declared.command.Command.{Command}
+use Rattle.qu_notation.specs.declared.command.Command.TheVariants.{Sim, Live, SimGen, Gen}
+use Rattle.qu_notation.specs.declared.command.Telling.{Telling}
+use Rattle.qu_notation.specs.declared.command.Telling.TheVariants.{Operations, Events, Digests, Bytes, Summary}
+use Rattle.qu_notation.specs.Words.{TellsOperations}
 use Rattle.qu_cli.specs.declared.output.Output.TheVariants.{Report}
 use Rattle.qu_io.specs.Streams.{StreamView, IsCalm}
 use Rattle.qu_cli.proofs.ScriptFacts.{too_long, unread, sim_too_long, live_too_long}
-use Rattle.qu_transfer.specs.Transfer.{TakesScript, Writes, WritesShort, WritesOrFails}
+use Rattle.qu_io.specs.Transfer.{TakesScript, Writes, WritesShort, WritesOrFails}
 use Rattle.qu_cli.specs.Ends.{TellsUntil, TellsBad, MakesText, HasOneHistory, IsPromised, IsScriptFor, Refuses, ReadsNothing, HasScript, GivesScript, IsReadOut, Runs, IsTraced, EndsBad, EndsShort, EndsDone, IsRefused, IsComplete}
 use Rattle.qu_cli.specs.Output.{Outputs, Tears}
 

@@ -10,7 +10,7 @@ use Rattle.qu_language.specs.Script.{script_of}
 use Rattle.qu_gather.specs.declared.torn.LiveFail.{LiveFail}
 use Rattle.qu_gather.specs.declared.torn.LiveFail.TheVariants as fail
 use Rattle.qu_gather.specs.Live.{AreCallsOf}
-use Rattle.qu_words.specs.declared.command.Command.TheVariants.{Live}
+use Rattle.qu_notation.specs.declared.command.Command.TheVariants.{Live}
 use Rattle.qu_cli.specs.Output.{MayFail}
 
 pub calls_may : (setup : Setup) (calls : List (ClientId × Op)) → MayAllCall setup calls → AreCallsOf setup calls

@@ -2,9 +2,9 @@
 use Rattle.std.proofs.Common.{◌≡◌, ℕ, List, None, Some, refl}
 use Rattle.qu_gen.specs.Script.{generated_script}
 use Rattle.qu_io.specs.Streams.{StreamView}
-use Rattle.qu_words.specs.declared.command.Command.{Command}
-use Rattle.qu_words.specs.declared.command.Command.TheVariants.{Sim, SimGen}
-use Rattle.qu_words.specs.declared.command.Telling.TheVariants.{Summary}
+use Rattle.qu_notation.specs.declared.command.Command.{Command}
+use Rattle.qu_notation.specs.declared.command.Command.TheVariants.{Sim, SimGen}
+use Rattle.qu_notation.specs.declared.command.Telling.TheVariants.{Summary}
 use Rattle.qu_cli.specs.declared.output.Output.{Output}
 use Rattle.qu_cli.specs.declared.output.Output.TheVariants.{Report, Refusal}
 use Rattle.qu_cli.specs.Output.{IsOutput, Outputs}

@@ -3,7 +3,7 @@ use Rattle.std.proofs.Common.{◌≡◌, true, false, ℕ, ◌<◌, length, List
 use Rattle.std.proofs.lemmas.Bool.{lt-ltb}
 use Rattle.qu_script_words.specs.declared.bad.Bad.{Bad}
 use Rattle.qu_script_words.specs.declared.bad.BadKind.TheVariants.{TooLong}
-use Rattle.qu_language.specs.declared.limits.TheConstants.{SCRIPT_LIMIT}
+use Rattle.qu_io.specs.declared.limits.TheConstants.{SCRIPT_LIMIT}
 use Rattle.qu_language.specs.Script.{script_of}
 use Rattle.qu_script.specs.Events.{sim_of}
 

@@ -8,9 +8,9 @@ use Rattle.qu_script.specs.declared.run.Played.{Played}
 use Rattle.qu_script.specs.Events.{whole_run, played_of, run_of, sim_of}
 use Rattle.qu_trace.specs.declared.trace.Trace.{Trace}
 use Rattle.qu_world.specs.Run.{IsRun}
-use Rattle.qu_words.specs.declared.command.Command.TheVariants.{Sim}
-use Rattle.qu_words.specs.declared.command.Telling.{Telling}
-use Rattle.qu_words.specs.declared.command.Telling.TheVariants.{Operations, Events, Digests, Bytes, Summary}
+use Rattle.qu_notation.specs.declared.command.Command.TheVariants.{Sim}
+use Rattle.qu_notation.specs.declared.command.Telling.{Telling}
+use Rattle.qu_notation.specs.declared.command.Telling.TheVariants.{Operations, Events, Digests, Bytes, Summary}
 use Rattle.qu_cli.specs.declared.output.Output.TheVariants.{Report}
 use Rattle.qu_cli.specs.Refusal.{bad_text}
 use Rattle.qu_cli.specs.Ends.{Reports, SumsUp, TellsRun, TellsFront, TellsUntil}

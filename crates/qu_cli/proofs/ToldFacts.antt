@@ -3,13 +3,13 @@ use Rattle.std.proofs.Common.{◌≡◌, ◌≢◌, ◌≤◌, Result, Ok, Err, 
 use Rattle.qu_io.specs.Streams.{StreamView, Rose, IsCalm}
 use Rattle.qu_gather.specs.declared.torn.Torn.{Torn}
 use Rattle.qu_trace.specs.declared.trace.Trace.{Trace}
-use Rattle.qu_words.specs.declared.command.Command.{Command}
+use Rattle.qu_notation.specs.declared.command.Command.{Command}
 use Rattle.qu_cli.specs.declared.output.Output.{Output}
 use Rattle.qu_cli.specs.declared.output.Output.TheVariants as output
 use Rattle.qu_cli.specs.declared.output.NoOutput.{NoOutput}
 use Rattle.qu_cli.specs.declared.output.NoOutput.TheVariants as no_output
 use Rattle.qu_cli.specs.declared.report.Report.{Report}
-use Rattle.qu_transfer.specs.Transfer.{Writes, WritesShort, WritesOrFails}
+use Rattle.qu_io.specs.Transfer.{Writes, WritesShort, WritesOrFails}
 use Rattle.qu_cli.specs.Ends.{EndsBad, EndsShort, EndsDone, IsPromised, HasScript, IsTraced, IsRefused, IsComplete}
 use Rattle.qu_cli.specs.Output.{IsWhole, Outputs, TellsRefusal, HasNoOutput, Tears}
 use Rattle.qu_cli.specs.Told.{IsWrittenOut, IsTold}

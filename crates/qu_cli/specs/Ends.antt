@@ -10,7 +10,7 @@ use Rattle.qu_trace.specs.declared.trace.Trace.{Trace}
 use Rattle.qu_trace.specs.Operation.{operations_of}
 use Rattle.qu_world.specs.Run.{IsRun}
 use Rattle.qu_claims.specs.Premises.{MeetsPremises}
-use Rattle.qu_premise.specs.Answer.{IsAnswer}
+use Rattle.qu_audit.specs.Answer.{IsAnswer}
 use Rattle.qu_claims.specs.Chained.{IsChained}
 use Rattle.qu_claims.specs.Order.{IsPrintedOrder}
 use Rattle.qu_print.specs.Report.{report_of}
@@ -24,12 +24,12 @@ use Rattle.qu_language.specs.Script.{script_of}
 use Rattle.qu_gather.specs.Live.{IsLive}
 use Rattle.qu_gen.specs.Script.{generated_script}
 use Rattle.qu_script.specs.Events.{played_of, sim_of}
-use Rattle.qu_words.specs.declared.command.Command.{Command}
-use Rattle.qu_words.specs.declared.command.Command.TheVariants.{Sim, Live, SimGen, Gen}
-use Rattle.qu_words.specs.declared.command.Telling.{Telling}
-use Rattle.qu_words.specs.declared.command.Telling.TheVariants.{Operations, Events, Digests, Bytes, Summary}
+use Rattle.qu_notation.specs.declared.command.Command.{Command}
+use Rattle.qu_notation.specs.declared.command.Command.TheVariants.{Sim, Live, SimGen, Gen}
+use Rattle.qu_notation.specs.declared.command.Telling.{Telling}
+use Rattle.qu_notation.specs.declared.command.Telling.TheVariants.{Operations, Events, Digests, Bytes, Summary}
 use Rattle.qu_cli.specs.Refusal.{bad_text}
-use Rattle.qu_transfer.specs.Transfer.{TakesScript, Writes, WritesShort, WritesOrFails}
+use Rattle.qu_io.specs.Transfer.{TakesScript, Writes, WritesShort, WritesOrFails}
 
 -- ---- what a command makes of a script
 

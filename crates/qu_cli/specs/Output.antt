@@ -8,10 +8,10 @@ use Rattle.qu_cli.specs.declared.output.Output.{Output}
 use Rattle.qu_cli.specs.declared.output.Output.TheVariants.{Report, Refusal}
 use Rattle.qu_cli.specs.declared.output.NoOutput.{NoOutput}
 use Rattle.qu_cli.specs.declared.output.NoOutput.TheVariants as no_output
-use Rattle.qu_transfer.specs.declared.reading.NoScript.{NoScript}
-use Rattle.qu_transfer.specs.declared.reading.NoScript.TheVariants as no_script
-use Rattle.qu_words.specs.declared.command.Command.{Command}
-use Rattle.qu_words.specs.declared.command.Command.TheVariants.{Live}
+use Rattle.qu_io.specs.declared.reading.NoScript.{NoScript}
+use Rattle.qu_io.specs.declared.reading.NoScript.TheVariants as no_script
+use Rattle.qu_notation.specs.declared.command.Command.{Command}
+use Rattle.qu_notation.specs.declared.command.Command.TheVariants.{Live}
 use Rattle.qu_cli.specs.Ends.{MakesText, TellsBad, IsScriptFor, Refuses, HasScript}
 
 abbrev pub output_error : NoScript → NoOutput

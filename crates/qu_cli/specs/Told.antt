@@ -2,7 +2,7 @@
 -- told, and as `sink'` behind it.
 use Rattle.std.specs.Prelude.{◌≡◌, ℕ, List, None, Some, Result, Ok, Err, ◌⊎◌}
 use Rattle.qu_io.specs.Streams.{StreamView, IsCalm}
-use Rattle.qu_transfer.specs.Transfer.{Writes, WritesShort, WritesOrFails}
+use Rattle.qu_io.specs.Transfer.{Writes, WritesShort, WritesOrFails}
 use Rattle.qu_cli.specs.declared.output.Output.{Output}
 use Rattle.qu_cli.specs.declared.output.Output.TheVariants as output
 use Rattle.qu_cli.specs.declared.output.NoOutput.{NoOutput}

@@ -1,16 +1,15 @@
 ghost use Rattle.std.specs.Prelude.{◌≡◌, ◌≢◌, ◌≤◌, ◌↔◌, None, IfSome};
 ghost use Rattle.qu_io.specs.Streams.{Rose, IsCalm};
-ghost use Rattle.qu_words.specs.Words.{IsAlone};
-ghost use Rattle.qu_transfer.specs.Transfer.{TakesFew, WritesOrFails};
+ghost use Rattle.qu_notation.specs.Words.{IsAlone};
+ghost use Rattle.qu_io.specs.Transfer.{TakesFew, WritesOrFails};
 ghost use Rattle.qu_cli.specs.Ends.{EndsBad, EndsShort, EndsDone, IsPromised, IsTraced, IsRefused, IsComplete, LeavesInput};
 
 use super::output::output_for;
 use super::teller::Teller;
 use super::telling::tell;
 use super::{End, Report};
-use qu_io::{Sink, Source};
-use qu_transfer::tell_text;
-use qu_words::Command;
+use qu_io::{Sink, Source, tell_text};
+use qu_notation::Command;
 use std::alloc::Global;
 
 /// Does what a program was asked, over the input, with all that it tells in the output. Where it was asked

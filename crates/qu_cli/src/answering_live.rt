@@ -1,6 +1,6 @@
 ghost use Rattle.std.specs.Prelude.{◌≡◌, ◌≢◌, ◌≤◌, ◌↔◌, Some, IfSome, IsSome};
 ghost use Rattle.qu_io.specs.Streams.{Rose, IsCalm};
-ghost use Rattle.qu_transfer.specs.Transfer.{TakesFew};
+ghost use Rattle.qu_io.specs.Transfer.{TakesFew};
 ghost use Rattle.qu_cli.specs.Ends.{EndsBad, EndsShort, EndsDone, IsPromised, IsTraced, IsRefused, IsComplete};
 
 use super::Report;
@@ -8,7 +8,7 @@ use super::live::live_output_for;
 use super::telling::tell;
 use qu_io::{Sink, Source};
 use qu_live::Gate;
-use qu_words::Command;
+use qu_notation::Command;
 use std::alloc::Global;
 use std::sync::Wait;
 use std::thread::Threads;

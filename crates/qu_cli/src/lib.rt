@@ -14,7 +14,7 @@ mod telling;
 mod top;
 
 pub use answering::answer;
-pub use qu_words::{Command, Telling};
+pub use qu_notation::{Command, Telling};
 pub use report::{End, Report};
 pub use script::{run_script, run_until_refused};
 pub use teller::Teller;

@@ -1,8 +1,8 @@
 ghost use Rattle.std.specs.Prelude.{◌≡◌, ◌≢◌, IfOk, IfErr, Err};
 ghost use Rattle.qu_io.specs.Streams.{Rose, IsCalm};
-ghost use Rattle.qu_transfer.specs.Transfer.{TakesFew};
+ghost use Rattle.qu_io.specs.Transfer.{TakesFew};
 ghost use Rattle.qu_gen.specs.Script.{generated_script};
-ghost use Rattle.qu_words.specs.Words.{IsAlone};
+ghost use Rattle.qu_notation.specs.Words.{IsAlone};
 ghost use Rattle.qu_cli.specs.Ends.{ReadsNothing};
 ghost use Rattle.qu_cli.specs.Output.{IsOutput, IsWhole, Outputs};
 
@@ -11,10 +11,9 @@ use super::teller::{OperationsTeller, Teller};
 use qu_base::{List, NoMemory};
 use qu_gather::Torn;
 use qu_gen::gen_script;
-use qu_io::Source;
+use qu_io::{NoScript, Source, take_script};
+use qu_notation::{Command, Telling};
 use qu_trace::Trace;
-use qu_transfer::{NoScript, take_script};
-use qu_words::{Command, Telling};
 use std::alloc::Global;
 
 /// What a command has to write.

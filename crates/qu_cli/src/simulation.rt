@@ -11,12 +11,12 @@ use super::script::run_until_refused;
 use super::teller::Teller;
 use qu_audit::audit;
 use qu_base::{List, NoMemory};
-use qu_hints::{hint, run_hint};
-use qu_report::{report_text, summary_text};
+use qu_language::{hint, run_hint};
+use qu_notation::{Command, Telling};
+use qu_print::{report_text, summary_text};
 use qu_safety::order_of;
 use qu_script::{Bad, Played, Script, ScriptFail, read_script};
 use qu_trace::{DecodedTrace, Trace};
-use qu_words::{Command, Telling};
 use std::alloc::Global;
 
 /// Runs the script that a text spells and tells this of the run, or why the script is refused.

@@ -1,18 +1,18 @@
 //! What tells of runs.
 ghost use Rattle.std.specs.Prelude.{IfOk};
-ghost use Rattle.qu_words.specs.Words.{TellsOperations};
+ghost use Rattle.qu_notation.specs.Words.{TellsOperations};
 ghost use Rattle.qu_world.specs.Run.{IsRun};
 ghost use Rattle.qu_cli.specs.Ends.{TellsRun};
 
 use super::simulation::{operations_text, sums_text};
 use qu_base::{List, NoMemory};
+use qu_notation::{Command, Telling};
 use qu_trace::Trace;
-use qu_words::{Command, Telling};
 use std::alloc::Global;
 
 /// What tells of runs what some commands want of them.
 pub trait Teller {
-    ghost use Rattle.qu_words.specs.declared.command.Command.{Command as ACommand};
+    ghost use Rattle.qu_notation.specs.declared.command.Command.{Command as ACommand};
 
     /// The commands that it serves.
     ghost serves: { ACommand → Type 0 };

@@ -3,8 +3,7 @@ ghost use Rattle.qu_cli.specs.Told.{IsTold};
 
 use super::output::{NoOutput, Output};
 use super::{End, Report};
-use qu_io::Sink;
-use qu_transfer::{tell_text, write_text};
+use qu_io::{Sink, tell_text, write_text};
 
 /// Tells what a command has to write, and reports how that ended, or why there is nothing to write.
 pub fn tell<K: Sink>(made: Result<Output, NoOutput>, output: &mut K) -> Report

@@ -1,7 +1,7 @@
 ghost use Rattle.std.specs.Prelude.{◌≡◌, ◌≢◌, ◌≤◌, ◌↔◌, None, Some, IfSome, IsSome, map, string_bytes};
 ghost use Rattle.qu_io.specs.Streams.{Rose, IsCalm};
-ghost use Rattle.qu_words.specs.Words.{alone_command_of, command_of, usage_text};
-ghost use Rattle.qu_transfer.specs.Transfer.{TakesFew, WritesOrFails};
+ghost use Rattle.qu_notation.specs.Words.{alone_command_of, command_of, usage_text};
+ghost use Rattle.qu_io.specs.Transfer.{TakesFew, WritesOrFails};
 ghost use Rattle.qu_cli.specs.Ends.{EndsBad, EndsShort, EndsDone, HasOneHistory, IsTraced, IsRefused, IsComplete, LeavesInput};
 
 use super::Report;
@@ -10,7 +10,7 @@ use super::answering_live::answer_live;
 use super::teller::OperationsTeller;
 use qu_io::{Sink, Source};
 use qu_live::Gate;
-use qu_words::{Command, USAGE, alone_command, asks_live};
+use qu_notation::{Command, USAGE, alone_command, asks_live};
 use std::alloc::Global;
 use std::sync::Wait;
 use std::thread::Threads;
@@ -22,7 +22,7 @@ use std::thread::Threads;
 /// with no new fault of the input. At 0 and 5 the report has the trace of the run, if there was one, whose operations
 /// have one history. For words with a number nothing is read: the script is that of the number. The word `live` is
 /// wrong here.
-#[tactic(auto, using(crate::proofs::EndFacts::has_history), unfolding(qu_words::specs::Words::usage_text))]
+#[tactic(auto, using(crate::proofs::EndFacts::has_history), unfolding(qu_notation::specs::Words::usage_text))]
 pub fn qu_alone<S: Source, K: Sink>(
     alloc: Global,
     words: &[String],
@@ -63,7 +63,7 @@ pub fn qu_alone<S: Source, K: Sink>(
 ///
 /// The statuses are those of `qu_alone`. For `live` there is one more, 7: what the threads left behind does not fit
 /// together. Then nothing is written, and the report tells what does not fit. With `live` it may wait for ever.
-#[tactic(auto, unfolding(qu_words::specs::Words::command_of, qu_words::specs::Words::usage_text))]
+#[tactic(auto, unfolding(qu_notation::specs::Words::command_of, qu_notation::specs::Words::usage_text))]
 pub fn qu<R: Threads + Wait + Sync, S: Source, K: Sink, G: Gate>(
     rt: &R,
     alloc: Global,

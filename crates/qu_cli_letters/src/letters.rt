@@ -1,13 +1,13 @@
 ghost use Rattle.std.specs.Prelude.{◌≡◌, ◌≢◌, ◌≤◌, ◌↔◌, None, IfSome, map, string_bytes};
 ghost use Rattle.qu_io.specs.Streams.{Rose, IsCalm};
-ghost use Rattle.qu_words.specs.Words.{command_in, letters_commands, letters_usage_text};
-ghost use Rattle.qu_transfer.specs.Transfer.{TakesFew, WritesOrFails};
+ghost use Rattle.qu_notation.specs.Words.{command_in, letters_commands, letters_usage_text};
+ghost use Rattle.qu_io.specs.Transfer.{TakesFew, WritesOrFails};
 ghost use Rattle.qu_cli.specs.Ends.{EndsBad, EndsShort, EndsDone, IsPromised, IsTraced, IsRefused, IsComplete};
 
 use super::teller::LettersTeller;
 use qu_cli::{Report, answer};
 use qu_io::{Sink, Source};
-use qu_words::{LETTERS_USAGE, letters_command};
+use qu_notation::{LETTERS_USAGE, letters_command};
 use std::alloc::Global;
 
 /// Runs the program `qu-letters`: lists the letters of the run of the script on the input, by event with the points of
@@ -15,7 +15,7 @@ use std::alloc::Global;
 ///
 /// The statuses are those of `qu`, with their causes. At 0 and 5 the report has the trace of the run. Where a line is
 /// refused as the script runs, what happened until then is listed, and the refusal is the last line.
-#[tactic(auto, unfolding(qu_words::specs::Words::letters_usage_text))]
+#[tactic(auto, unfolding(qu_notation::specs::Words::letters_usage_text))]
 pub fn qu_letters<S: Source, K: Sink>(
     alloc: Global,
     words: &[String],

@@ -1,6 +1,6 @@
 //! What tells of the letters of a run.
 ghost use Rattle.std.specs.Prelude.{IfOk};
-ghost use Rattle.qu_words.specs.Words.{TellsLetters};
+ghost use Rattle.qu_notation.specs.Words.{TellsLetters};
 ghost use Rattle.qu_world.specs.Run.{IsRun};
 ghost use Rattle.qu_cli.specs.Ends.{Lists, TellsRun};
 
@@ -8,9 +8,9 @@ use qu_audit::audit;
 use qu_base::{List, NoMemory};
 use qu_cli::Teller;
 use qu_listing::{bytes_text, digests_text, events_text};
+use qu_notation::{Command, Telling};
 use qu_safety::order_of;
 use qu_trace::{DecodedTrace, Trace};
-use qu_words::{Command, Telling};
 use std::alloc::Global;
 
 /// What tells of a run's letters: by event, with their digests, or with their bytes.

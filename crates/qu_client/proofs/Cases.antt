@@ -23,25 +23,25 @@ use Rattle.qu_verdicts.specs.declared.verdict.Verdict.{Verdict}
 use Rattle.qu_frames.specs.Body.{body_of}
 use Rattle.qu_frames.specs.Signing.{brought}
 use Rattle.qu_question.specs.declared.kept.Kept.{Kept}
-use Rattle.qu_counting.specs.declared.whom.Whom.{Whom}
-use Rattle.qu_counting.specs.declared.whom.Whom.TheVariants.{Others}
-use Rattle.qu_counting.specs.declared.work.Counted.{Counted}
-use Rattle.qu_counting.specs.declared.work.Phase.{Phase}
-use Rattle.qu_counting.specs.declared.work.Phase.TheVariants.{Asking, Resting}
-use Rattle.qu_counting.specs.declared.work.Work.{Work}
+use Rattle.qu_client.specs.declared.whom.Whom.{Whom}
+use Rattle.qu_client.specs.declared.whom.Whom.TheVariants.{Others}
+use Rattle.qu_client.specs.declared.work.Counted.{Counted}
+use Rattle.qu_client.specs.declared.work.Phase.{Phase}
+use Rattle.qu_client.specs.declared.work.Phase.TheVariants.{Asking, Resting}
+use Rattle.qu_client.specs.declared.work.Work.{Work}
 use Rattle.qu_client.specs.State.{ClientState, Stepped}
 use Rattle.qu_question.specs.Kept.{keep_all, unmarked}
 use Rattle.qu_client.specs.Leaving.{after_replies}
-use Rattle.qu_counting.specs.Needed.{named_after}
+use Rattle.qu_client.specs.Needed.{named_after}
 use Rattle.qu_question.specs.Named.{operation_objects}
 use Rattle.qu_question.specs.declared.question.Question.{Question}
 use Rattle.qu_question.specs.Question.{sets_of, are_full, are_current, target_of, named_for, question_of}
-use Rattle.qu_counting.specs.Whom.{first_object, whom_asked}
-use Rattle.qu_counting.specs.Work.{work_asking}
+use Rattle.qu_client.specs.Whom.{first_object, whom_asked}
+use Rattle.qu_client.specs.Work.{work_asking}
 use Rattle.qu_client.specs.Rounds.{requests, begins, begin_round, asking_all, asks_others}
 use Rattle.qu_question.specs.Marking.{marked_shown}
-use Rattle.qu_counting.specs.Verdicts.{fitting, identical_verdicts, is_agreed}
-use Rattle.qu_counting.specs.Work.{counts, with_verdict}
+use Rattle.qu_client.specs.Verdicts.{fitting, identical_verdicts, is_agreed}
+use Rattle.qu_client.specs.Work.{counts, with_verdict}
 use Rattle.qu_client.specs.Steps.{stays, ends, next_round, is_rest_due, rests, ends_round, agreed, counted_in, client_on_frame, client_on_received, client_step, ticked_in, ticked, client_tick, next_number, client_invoke}
 use Rattle.qu_client.specs.Sound.{IsSoundWork, IsSound, IsFor}
 use Rattle.qu_question.proofs.Marks.{IsRemarked, shown_in-remarked}

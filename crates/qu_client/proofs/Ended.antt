@@ -4,9 +4,9 @@ use Rattle.std.specs.List.{fold}
 use Rattle.qu_base.specs.declared.party.ObjectId.{ObjectId}
 use Rattle.qu_question.specs.declared.kept.Kept.{Kept}
 use Rattle.qu_question.specs.Named.{with_named}
-use Rattle.qu_counting.specs.declared.work.Counted.{Counted}
+use Rattle.qu_client.specs.declared.work.Counted.{Counted}
 use Rattle.qu_client.specs.Leaving.{mark_after, after_replies}
-use Rattle.qu_counting.specs.Needed.{needed_objects, named_after}
+use Rattle.qu_client.specs.Needed.{needed_objects, named_after}
 use Rattle.qu_question.proofs.Marks.{IsRemarked, remarked}
 use Rattle.qu_question.proofs.Naming.{AreMore, same_named, and_more, with_named-more}
 

@@ -12,12 +12,12 @@ use Rattle.qu_objects.specs.declared.op.Op.{Op}
 use Rattle.qu_frames.specs.declared.limits.TheConstants.{LAST_ROUND}
 use Rattle.qu_verdicts.specs.declared.verdict.Verdict.{Verdict}
 use Rattle.qu_question.specs.declared.kept.Kept.{Kept}
-use Rattle.qu_counting.specs.declared.work.Counted.{Counted}
-use Rattle.qu_counting.specs.declared.work.Phase.{Phase}
-use Rattle.qu_counting.specs.declared.work.Phase.TheVariants.{Asking, Resting}
-use Rattle.qu_counting.specs.declared.work.Work.{Work}
+use Rattle.qu_client.specs.declared.work.Counted.{Counted}
+use Rattle.qu_client.specs.declared.work.Phase.{Phase}
+use Rattle.qu_client.specs.declared.work.Phase.TheVariants.{Asking, Resting}
+use Rattle.qu_client.specs.declared.work.Work.{Work}
 use Rattle.qu_client.specs.State.{ClientState, Stepped, client_at_start}
-use Rattle.qu_counting.specs.Work.{is_asking, counts, with_verdict}
+use Rattle.qu_client.specs.Work.{is_asking, counts, with_verdict}
 use Rattle.qu_client.specs.Steps.{client_step, client_invoke, client_tick, next_number}
 use Rattle.qu_client.specs.Sound.{NumbersWithin, IsSoundWork, IsSound, IsFor}
 use Rattle.qu_client.proofs.Cases.{IsRound, IsNext, IsFirst, OfEach, step_cases, tick_cases, invoke_cases}

@@ -1,6 +1,9 @@
-pub mod Requesting
-pub mod Planning
-pub mod Ended
+pub mod AskedFirst
 pub mod Cases
+pub mod Ended
 pub mod Laws
+pub mod Needs
+pub mod Planning
+pub mod Requesting
 pub mod Sent
+pub mod Waits

@@ -4,10 +4,10 @@ use Rattle.qu_base.specs.declared.party.ObjectId.{ObjectId}
 use Rattle.rand_pcg.specs.Lcg.{Lcg}
 use Rattle.qu_question.specs.declared.kept.Kept.{Kept}
 use Rattle.qu_client.specs.declared.planned.Turn.TheVariants.{Counts, Rests, Passes}
-use Rattle.qu_counting.specs.declared.work.Counted.{Counted}
-use Rattle.qu_counting.specs.declared.work.Phase.{Phase}
-use Rattle.qu_counting.specs.declared.work.Phase.TheVariants.{Resting}
-use Rattle.qu_counting.specs.declared.work.Work.{Work}
+use Rattle.qu_client.specs.declared.work.Counted.{Counted}
+use Rattle.qu_client.specs.declared.work.Phase.{Phase}
+use Rattle.qu_client.specs.declared.work.Phase.TheVariants.{Resting}
+use Rattle.qu_client.specs.declared.work.Work.{Work}
 use Rattle.qu_client.specs.State.{ClientState}
 use Rattle.qu_client.specs.Plans.{after_turn}
 

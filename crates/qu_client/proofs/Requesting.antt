@@ -8,10 +8,10 @@ use Rattle.qu_seal.specs.Keys.{Ring, seal_of}
 use Rattle.qu_frames.specs.declared.frame.Letter.{Letter}
 use Rattle.qu_frames.specs.Formats.{frame_form}
 use Rattle.qu_frames.specs.Signing.{before_mac, text_digest, signed}
-use Rattle.qu_counting.specs.declared.whom.Whom.{Whom}
-use Rattle.qu_counting.specs.declared.work.Phase.{Phase}
-use Rattle.qu_counting.specs.declared.work.Work.{Work}
-use Rattle.qu_counting.specs.Whom.{is_asked}
+use Rattle.qu_client.specs.declared.whom.Whom.{Whom}
+use Rattle.qu_client.specs.declared.work.Phase.{Phase}
+use Rattle.qu_client.specs.declared.work.Work.{Work}
+use Rattle.qu_client.specs.Whom.{is_asked}
 use Rattle.qu_client.specs.Rounds.{request_of, requests_from}
 use Rattle.qu_question.proofs.Gathered.{left_after}
 

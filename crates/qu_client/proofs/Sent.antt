@@ -8,9 +8,9 @@ use Rattle.qu_base.specs.declared.party.Party.TheVariants as party
 use Rattle.qu_seal.specs.Keys.{Ring}
 use Rattle.qu_frames.specs.declared.frame.Letter.{Letter}
 use Rattle.qu_frames.specs.Signing.{signed}
-use Rattle.qu_counting.specs.declared.whom.Whom.{Whom}
-use Rattle.qu_counting.specs.declared.work.Work.{Work}
-use Rattle.qu_counting.specs.Whom.{is_asked}
+use Rattle.qu_client.specs.declared.whom.Whom.{Whom}
+use Rattle.qu_client.specs.declared.work.Work.{Work}
+use Rattle.qu_client.specs.Whom.{is_asked}
 use Rattle.qu_client.specs.Rounds.{request_of, requests_from}
 use Rattle.qu_client.proofs.Requesting.{request}
 

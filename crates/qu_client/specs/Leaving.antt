@@ -7,7 +7,7 @@ use Rattle.qu_base.specs.Bounds.{quorum}
 use Rattle.qu_question.specs.declared.kept.Kept.{Kept}
 use Rattle.qu_question.specs.declared.kept.Mark.{Mark}
 use Rattle.qu_question.specs.declared.kept.Mark.TheVariants.{LeftOut}
-use Rattle.qu_counting.specs.declared.work.Counted.{Counted}
+use Rattle.qu_client.specs.declared.work.Counted.{Counted}
 use Rattle.qu_question.specs.Kept.{is_shown, is_left_out}
 
 -- a culled list names the entry

@@ -1,6 +1,12 @@
-pub mod State
+pub mod AskedFirst
 pub mod Leaving
-pub mod Rounds
-pub mod Steps
+pub mod Needed
 pub mod Plans
+pub mod Rounds
 pub mod Sound
+pub mod State
+pub mod Steps
+pub mod Verdicts
+pub mod Waits
+pub mod Whom
+pub mod Work

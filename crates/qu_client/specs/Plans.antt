@@ -4,8 +4,8 @@ use Rattle.qu_question.specs.declared.kept.Kept.{Kept}
 use Rattle.qu_client.specs.declared.planned.Planned.{Planned}
 use Rattle.qu_client.specs.declared.planned.Turn.{Turn}
 use Rattle.qu_client.specs.declared.planned.Turn.TheVariants.{Stays, Ends, Begins, Counts, Rests, Passes}
-use Rattle.qu_counting.specs.declared.work.Phase.TheVariants.{Resting}
-use Rattle.qu_counting.specs.declared.work.Work.{Work}
+use Rattle.qu_client.specs.declared.work.Phase.TheVariants.{Resting}
+use Rattle.qu_client.specs.declared.work.Work.{Work}
 use Rattle.qu_client.specs.State.{ClientState, Stepped}
 
 -- the operation under way, if there is one, is changed so

@@ -11,12 +11,12 @@ use Rattle.qu_frames.specs.declared.frame.Frame.TheVariants as frame
 use Rattle.qu_frames.specs.declared.frame.Letter.{Letter}
 use Rattle.qu_frames.specs.Blank.{blank_mac}
 use Rattle.qu_frames.specs.Signing.{signed}
-use Rattle.qu_counting.specs.declared.whom.Whom.{Whom}
-use Rattle.qu_counting.specs.declared.whom.Whom.TheVariants.{Others}
-use Rattle.qu_counting.specs.declared.work.Phase.TheVariants.{Asking}
-use Rattle.qu_counting.specs.declared.work.Work.{Work}
-use Rattle.qu_counting.specs.Whom.{is_asked, first_object, whom_asked}
-use Rattle.qu_counting.specs.Work.{work_asking}
+use Rattle.qu_client.specs.declared.whom.Whom.{Whom}
+use Rattle.qu_client.specs.declared.whom.Whom.TheVariants.{Others}
+use Rattle.qu_client.specs.declared.work.Phase.TheVariants.{Asking}
+use Rattle.qu_client.specs.declared.work.Work.{Work}
+use Rattle.qu_client.specs.Whom.{is_asked, first_object, whom_asked}
+use Rattle.qu_client.specs.Work.{work_asking}
 use Rattle.qu_client.specs.State.{ClientState, Stepped}
 use Rattle.qu_question.specs.Question.{question_of}
 use Rattle.qu_question.specs.Marking.{marked_shown}

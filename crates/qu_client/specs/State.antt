@@ -4,7 +4,7 @@ use Rattle.qu_base.specs.declared.party.ClientId.{ClientId}
 use Rattle.qu_seal.specs.Keys.{Ring}
 use Rattle.qu_objects.specs.declared.op.Outcome.{Outcome}
 use Rattle.qu_frames.specs.declared.frame.Letter.{Letter}
-use Rattle.qu_pick.specs.Waits.{wait_words}
+use Rattle.qu_client.specs.Waits.{wait_words}
 pub use Rattle.qu_client.specs.declared.state.ClientState.{ClientState}
 
 -- what a step makes: the state, the letters that it sends, and the end of the operation

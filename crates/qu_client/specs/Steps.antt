@@ -16,15 +16,15 @@ use Rattle.qu_verdicts.specs.declared.verdict.Verdict.{Verdict}
 use Rattle.qu_verdicts.specs.declared.verdict.Verdict.TheVariants as verdict
 use Rattle.qu_verdicts.specs.declared.verdict.Refusal.TheVariants as refusal
 use Rattle.qu_frames.specs.Signing.{brought}
-use Rattle.qu_pick.specs.Waits.{next_wait}
-use Rattle.qu_counting.specs.declared.work.Counted.{Counted}
-use Rattle.qu_counting.specs.declared.work.Phase.{Phase}
-use Rattle.qu_counting.specs.declared.work.Phase.TheVariants.{Asking, Resting}
-use Rattle.qu_counting.specs.declared.work.Work.{Work}
-use Rattle.qu_counting.specs.Whom.{whom_asked}
-use Rattle.qu_counting.specs.Verdicts.{fitting, is_hopeless, is_agreed}
-use Rattle.qu_counting.specs.Work.{rest_left, counts, with_verdict}
-use Rattle.qu_counting.specs.Needed.{named_after}
+use Rattle.qu_client.specs.Waits.{next_wait}
+use Rattle.qu_client.specs.declared.work.Counted.{Counted}
+use Rattle.qu_client.specs.declared.work.Phase.{Phase}
+use Rattle.qu_client.specs.declared.work.Phase.TheVariants.{Asking, Resting}
+use Rattle.qu_client.specs.declared.work.Work.{Work}
+use Rattle.qu_client.specs.Whom.{whom_asked}
+use Rattle.qu_client.specs.Verdicts.{fitting, is_hopeless, is_agreed}
+use Rattle.qu_client.specs.Work.{rest_left, counts, with_verdict}
+use Rattle.qu_client.specs.Needed.{named_after}
 use Rattle.qu_client.specs.State.{ClientState, Stepped}
 use Rattle.qu_question.specs.Kept.{keep_all, unmarked}
 use Rattle.qu_client.specs.Leaving.{after_replies}

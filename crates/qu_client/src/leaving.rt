@@ -1,8 +1,8 @@
 ghost use Rattle.std.specs.Prelude.{◌≡◌, IfOk};
 ghost use Rattle.qu_client.specs.Leaving.{is_name_of, names, names_of, is_named, of_same_object, comes_after, before, remaining, leaves, after_replies};
 
+use crate::work::Counted;
 use qu_base::{Bounds, List, NoMemory, ObjectId, ReplicaId};
-use qu_counting::Counted;
 use qu_question::{Kept, Mark};
 use std::alloc::Global;
 

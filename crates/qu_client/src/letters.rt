@@ -2,8 +2,9 @@ ghost use Rattle.std.specs.Prelude.{◌≡◌, IfOk};
 ghost use Rattle.qu_frames.specs.Formats.{frame_form};
 ghost use Rattle.qu_client.specs.Rounds.{request_of, requests_from, requests};
 
+use crate::whom::Whom;
+use crate::work::Work;
 use qu_base::{ClientId, List, NoMemory, Party, ReplicaId};
-use qu_counting::{Whom, Work};
 use qu_frames::{Frame, Letter, blank_mac, encode, text_digest, with_mac};
 use qu_seal::KeyRing;
 use std::alloc::Global;

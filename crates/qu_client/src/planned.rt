@@ -1,10 +1,10 @@
 ghost use Rattle.std.specs.Prelude.{◌≡◌, [], None, Some, IfOk};
 
+use crate::backoff::Backoff;
+use crate::work::{Counted, Phase, Work};
 use qu_base::{List, NoMemory};
-use qu_counting::{Counted, Phase, Work};
 use qu_frames::Letter;
 use qu_objects::Outcome;
-use qu_pick::Backoff;
 use qu_question::{Kept, Named};
 use std::alloc::Global;
 

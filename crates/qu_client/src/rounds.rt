@@ -4,8 +4,9 @@ ghost use Rattle.qu_client.specs.Plans.{planned_step};
 
 use super::letters::requests;
 use super::{ClientState, Moved, Planned, Turn};
+use crate::whom::{Whom, first_object};
+use crate::work::{Phase, Work};
 use qu_base::{List, NoMemory};
-use qu_counting::{Phase, Whom, Work, first_object};
 use qu_objects::Op;
 use qu_question::{Kept, Named, marked_shown, question_of};
 use std::alloc::Global;

@@ -1,6 +1,6 @@
+use crate::backoff::Backoff;
+use crate::work::Work;
 use qu_base::{ClientId, List};
-use qu_counting::Work;
-use qu_pick::Backoff;
 use qu_question::Kept;
 use qu_seal::KeyRing;
 

@@ -1,13 +1,14 @@
 ghost use Rattle.std.specs.Prelude.{◌≡◌, IfOk, Some};
-ghost use Rattle.qu_counting.specs.Verdicts.{fitting};
-ghost use Rattle.qu_counting.specs.Work.{with_reply};
+ghost use Rattle.qu_client.specs.Verdicts.{fitting};
+ghost use Rattle.qu_client.specs.Work.{with_reply};
 ghost use Rattle.qu_client.specs.Steps.{agreed, judged, counted_in};
 ghost use Rattle.qu_client.specs.Plans.{planned_step};
 
 use super::endings::ends_round;
 use super::{ClientState, Planned, Turn};
+use crate::verdicts::{fitting, is_agreed, is_hopeless};
+use crate::work::{Counted, Work};
 use qu_base::{List, NoMemory, ObjectId, ReplicaId};
-use qu_counting::{Counted, Work, fitting, is_agreed, is_hopeless};
 use qu_frames::Verdict;
 use qu_objects::Outcome;
 use qu_question::Kept;

@@ -5,8 +5,8 @@ ghost use Rattle.qu_client.specs.Plans.{planned_step};
 use super::endings::{ends_round, next_round};
 use super::rounds::asks_others;
 use super::{ClientState, Planned, Turn};
+use crate::work::{Phase, Work};
 use qu_base::NoMemory;
-use qu_counting::{Phase, Work};
 use qu_question::copies;
 use std::alloc::Global;
 

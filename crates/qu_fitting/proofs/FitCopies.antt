@@ -6,8 +6,8 @@ use Rattle.qu_stamp.specs.declared.stamp.Stamp.{Stamp}
 use Rattle.qu_stamp.specs.Group.{is_group, listed_time}
 use Rattle.qu_stamp.proofs.Forms.{alone_fits}
 use Rattle.qu_history.specs.Sets.{latest_of}
-use Rattle.qu_remedies.specs.declared.remedy.Remedy.{Remedy}
-use Rattle.qu_remedies.specs.declared.remedy.Remedy.TheVariants.{Nothing, Shown, Fresh, Unshown, Unplanned, Outdated}
+use Rattle.qu_kept.specs.declared.remedy.Remedy.{Remedy}
+use Rattle.qu_kept.specs.declared.remedy.Remedy.TheVariants.{Nothing, Shown, Fresh, Unshown, Unplanned, Outdated}
 use Rattle.qu_mends.specs.Remedy.{has_time, fresh_member, made_group}
 use Rattle.qu_mends.specs.Causes.{AddsPlain}
 use Rattle.qu_mends.proofs.MadeGroups.{made_whole}

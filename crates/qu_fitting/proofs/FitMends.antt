@@ -21,15 +21,15 @@ use Rattle.qu_stamp.specs.declared.candidate.Candidate.{Candidate}
 use Rattle.qu_history.specs.declared.sets.SetOf.{SetOf}
 use Rattle.qu_class.specs.Class.{is_copy, class_in}
 use Rattle.qu_plan.specs.Evidence.{is_read, read_key, evidence_of}
-use Rattle.qu_remedies.specs.declared.course.Course.{Course}
+use Rattle.qu_kept.specs.declared.course.Course.{Course}
 use Rattle.qu_mends.specs.declared.accepted.Accepted.{Accepted}
-use Rattle.qu_remedies.specs.declared.remedy.Remedy.{Remedy}
-use Rattle.qu_remedies.specs.declared.remedy.Remedy.TheVariants.{Nothing, Shown, Fresh, Unshown, Unplanned, Outdated}
+use Rattle.qu_kept.specs.declared.remedy.Remedy.{Remedy}
+use Rattle.qu_kept.specs.declared.remedy.Remedy.TheVariants.{Nothing, Shown, Fresh, Unshown, Unplanned, Outdated}
 use Rattle.qu_mends.specs.declared.mend.Mend.{Mend}
 use Rattle.qu_mends.specs.declared.mending.Mending.{Mending}
 use Rattle.qu_mends.specs.declared.mending.Mending.TheVariants.{Mends, Holds, Refuses}
 use Rattle.qu_mends.specs.declared.mending.Mending.TheVariants as mending
-use Rattle.qu_remedies.specs.Remedy.{wanted_by, unless_barrier, remedies_by}
+use Rattle.qu_kept.specs.Remedy.{wanted_by, unless_barrier, remedies_by}
 use Rattle.qu_mends.specs.Remedy.{MendPart, course_of, made_group}
 use Rattle.qu_mends.specs.Mending.{missing_in}
 use Rattle.qu_mends.specs.Causes.{RefusesFor, IsPartAdded, ArePartsAdded, IsToldOf, HasCause}

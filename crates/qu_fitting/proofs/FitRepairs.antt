@@ -26,7 +26,7 @@ use Rattle.qu_class.specs.Class.{is_latest, is_full, barrier_class, class_of, is
 use Rattle.qu_plan.specs.declared.plan.CopyPlan.{CopyPlan}
 use Rattle.qu_plan.specs.declared.plan.PlanFail.{PlanFail}
 use Rattle.qu_plan.specs.declared.plan.PlanFail.TheVariants as fail
-use Rattle.qu_together.specs.Beside.{is_repairable}
+use Rattle.qu_plan.specs.Beside.{is_repairable}
 use Rattle.qu_plan.specs.Chosen.{chosen_on}
 use Rattle.qu_plan.specs.Copying.{is_outstanding, plan_of}
 use Rattle.qu_plan.specs.Linking.{Linking}
@@ -37,11 +37,11 @@ use Rattle.qu_kept.specs.Performing.{links_to_others, copied_state}
 use Rattle.qu_kept.proofs.EachObject.{objects_named}
 use Rattle.qu_kept.proofs.RisingObjects.{IsNumbered}
 use Rattle.qu_kept.proofs.FitLinks.{links-read, links-fit, others_fit, links_with}
-use Rattle.qu_remedies.specs.declared.remedy.Remedy.{Remedy}
-use Rattle.qu_remedies.specs.declared.remedy.Remedy.TheVariants.{Nothing, Shown, Fresh, Unshown, Unplanned, Outdated}
+use Rattle.qu_kept.specs.declared.remedy.Remedy.{Remedy}
+use Rattle.qu_kept.specs.declared.remedy.Remedy.TheVariants.{Nothing, Shown, Fresh, Unshown, Unplanned, Outdated}
 use Rattle.qu_mends.specs.declared.mend.Mend.{Mend}
-use Rattle.qu_remedies.specs.declared.course.Course.{Course}
-use Rattle.qu_remedies.specs.Remedy.{copied_at, copy_of, copied_member}
+use Rattle.qu_kept.specs.declared.course.Course.{Course}
+use Rattle.qu_kept.specs.Remedy.{copied_at, copy_of, copied_member}
 use Rattle.qu_mends.specs.Remedy.{shown_member, copy_course, course_by, course_of, fresh_repair}
 use Rattle.qu_mends.specs.Causes.{MakesCandidate, AddsVersion}
 use Rattle.qu_fitting.specs.Fits.{VersionFits}

@@ -16,7 +16,6 @@ pub mod FitRequests
 pub mod Accepting
 pub mod AcceptingAll
 pub mod CarriedEach
-pub mod CulledRequests
 pub mod Decoded
 pub mod FitState
 pub mod OwnHistories

@@ -15,7 +15,7 @@ use Rattle.qu_frames.specs.declared.frame.Frame.{Frame}
 use Rattle.qu_frames.specs.declared.frame.Letter.{Letter}
 use Rattle.qu_frames.specs.Formats.{frame_form}
 use Rattle.qu_versions.specs.declared.stored.Stored.{Stored}
-use Rattle.qu_lacking.specs.Waiting.{Waiting, request_frame_of}
+use Rattle.qu_waiting.specs.Waiting.{Waiting, request_frame_of}
 use Rattle.qu_rows.specs.State.{ReplicaState, AreHistories}
 
 -- a value has bytes

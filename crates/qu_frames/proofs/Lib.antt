@@ -1,5 +1,5 @@
-pub mod Forms
 pub mod Decoded
+pub mod Forms
 pub mod Pieces
-pub mod Signed
 pub mod Readings
+pub mod Signed

@@ -1,6 +1,6 @@
-pub mod Body
-pub mod Formats
-pub mod Decoding
 pub mod Blank
-pub mod Signing
+pub mod Body
+pub mod Decoding
+pub mod Formats
 pub mod Reading
+pub mod Signing

@@ -15,7 +15,7 @@ use Rattle.qu_frames.specs.declared.input.Input.{Input}
 use Rattle.qu_frames.specs.declared.input.Input.TheVariants.{Frame, Tick, Invoke}
 use Rattle.qu_question.specs.declared.kept.Kept.{Kept}
 use Rattle.qu_client.specs.declared.state.ClientState.{ClientState}
-use Rattle.qu_counting.specs.declared.work.Work.{Work}
+use Rattle.qu_client.specs.declared.work.Work.{Work}
 use Rattle.qu_client.specs.State.{Stepped}
 use Rattle.qu_client.specs.Steps.{client_step, client_tick, client_invoke, next_number}
 use Rattle.qu_client.specs.Sound.{IsSound, last_number}

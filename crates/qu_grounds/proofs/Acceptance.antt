@@ -33,9 +33,9 @@ use Rattle.qu_claims.specs.Grounds.{Accepts, IsRemedy}
 use Rattle.qu_mends.specs.declared.mending.Mending.{Mending}
 use Rattle.qu_mends.specs.declared.mending.Mending.TheVariants as mending
 use Rattle.qu_mends.specs.declared.mend.Mend.{Mend}
-use Rattle.qu_remedies.specs.declared.remedy.Remedy.TheVariants.{Shown}
-use Rattle.qu_remedies.specs.declared.course.Course.{Course}
-use Rattle.qu_remedies.specs.Remedy.{whole_group, chosen_member, remedies_by}
+use Rattle.qu_kept.specs.declared.remedy.Remedy.TheVariants.{Shown}
+use Rattle.qu_kept.specs.declared.course.Course.{Course}
+use Rattle.qu_kept.specs.Remedy.{whole_group, chosen_member, remedies_by}
 use Rattle.qu_mends.specs.Remedy.{shown_member, copy_course, course_by, course_of, fresh_member, made_group}
 use Rattle.qu_mends.specs.Causes.{IsPartAdded, ArePartsAdded, HasCause}
 use Rattle.qu_class.specs.Rows.{AreWellFormed, IsGreatestOfKind, AllShown}
@@ -65,7 +65,7 @@ use Rattle.qu_versions.specs.declared.stored.Stored.{Stored}
 use Rattle.std.proofs.lemmas.List.{append-nil}
 use Rattle.qu_grounds.proofs.ActAcceptance.{accepted_in, AcceptsNothing, unknown, thin, past, ask_accepts, carried, may_accept, candidates_after, stays, act_moves, alike_candidates}
 use Rattle.qu_replica.specs.Growth.{HoldsAlike}
-use Rattle.qu_lacking.specs.Waiting.{TakenRequest, request_frame_of}
+use Rattle.qu_waiting.specs.Waiting.{TakenRequest, request_frame_of}
 use Rattle.qu_frames.specs.declared.frame.Body.{Body}
 
 -- ---- a repair

@@ -53,9 +53,9 @@ use Rattle.qu_versions.specs.Versions.{version_at}
 use Rattle.qu_rows.specs.Allowed.{HasParts, MayAcceptAll, MayDecide}
 use Rattle.qu_rows.proofs.Allowed.{decision_on-may}
 use Rattle.qu_claims.specs.Grounds.{Accepts, Performs}
-use Rattle.qu_remedies.specs.declared.remedy.Remedy.TheVariants.{Fresh}
+use Rattle.qu_kept.specs.declared.remedy.Remedy.TheVariants.{Fresh}
 use Rattle.qu_replica.specs.Growth.{HoldsAlike}
-use Rattle.qu_lacking.specs.Waiting.{TakenRequest}
+use Rattle.qu_waiting.specs.Waiting.{TakenRequest}
 
 -- ---- the rows that accept nothing
 

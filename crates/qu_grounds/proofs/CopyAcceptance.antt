@@ -24,8 +24,8 @@ use Rattle.qu_plan.proofs.Copying.{IsCopied, plan_copies}
 use Rattle.qu_class.proofs.GroupRule.{OwnTells, copy_is_own, own_tells}
 use Rattle.qu_mends.specs.declared.accepted.Accepted.{Accepted}
 use Rattle.qu_mends.specs.declared.mend.Mend.{Mend}
-use Rattle.qu_remedies.specs.declared.remedy.Remedy.TheVariants.{Fresh}
-use Rattle.qu_remedies.specs.Remedy.{chosen_member, copied_member}
+use Rattle.qu_kept.specs.declared.remedy.Remedy.TheVariants.{Fresh}
+use Rattle.qu_kept.specs.Remedy.{chosen_member, copied_member}
 use Rattle.qu_mends.specs.Remedy.{has_time, fresh_member, made_group, fresh_repair}
 use Rattle.qu_mends.specs.Causes.{IsPartAdded, ArePartsAdded}
 use Rattle.qu_rows.specs.State.{ReplicaState, own_latest}

@@ -17,7 +17,7 @@ use Rattle.qu_history.specs.Culling.{culled}
 use Rattle.qu_class.specs.declared.class.Class.TheVariants.{InlineMethod}
 use Rattle.qu_class.specs.Class.{agrees, is_latest, listed_stamp, class_in}
 use Rattle.qu_class.specs.Repairable.{object_base}
-use Rattle.qu_remedies.specs.Remedy.{whole_group}
+use Rattle.qu_kept.specs.Remedy.{whole_group}
 use Rattle.qu_mends.proofs.Members.{inline_joined}
 use Rattle.qu_frames.specs.declared.frame.Body.TheVariants as body
 use Rattle.qu_frames.specs.declared.frame.Frame.TheVariants as frame

@@ -17,7 +17,7 @@ use Rattle.qu_class.specs.Class.{is_copy, listed_stamp, is_of_group, class_in}
 use Rattle.qu_plan.specs.Copying.{is_joined, joint_part, joint_of, plan_of}
 use Rattle.qu_plan.specs.Linking.{Linking}
 use Rattle.qu_plan.proofs.Copying.{IsPlan, is_plan}
-use Rattle.qu_remedies.specs.Remedy.{chosen_member}
+use Rattle.qu_kept.specs.Remedy.{chosen_member}
 use Rattle.qu_rows.specs.Rows.{objects_of}
 
 -- from a lower number on

@@ -17,10 +17,10 @@ use Rattle.qu_rows.specs.State.{ReplicaState}
 use Rattle.qu_rows.specs.Rows.{Asked, linking_of, missing_of, evidence_for, mend_asked, wanted_version, fresh_group, objects_of}
 use Rattle.qu_versions.specs.Versions.{version_at}
 use Rattle.qu_claims.specs.Grounds.{shown_base, IsMade, IsPlanned, IsRemedy, made_stamp, IsFound}
-use Rattle.qu_remedies.specs.declared.course.Course.{Course}
+use Rattle.qu_kept.specs.declared.course.Course.{Course}
 use Rattle.qu_mends.specs.declared.mend.Mend.{Mend}
-use Rattle.qu_remedies.specs.declared.remedy.Remedy.TheVariants.{Shown, Fresh}
-use Rattle.qu_remedies.specs.Remedy.{whole_group, copied_at, copy_of, chosen_member, wanted_by}
+use Rattle.qu_kept.specs.declared.remedy.Remedy.TheVariants.{Shown, Fresh}
+use Rattle.qu_kept.specs.Remedy.{whole_group, copied_at, copy_of, chosen_member, wanted_by}
 use Rattle.qu_mends.specs.Remedy.{copy_course, course_by, fresh_repair as fresh_candidate}
 use Rattle.qu_mends.specs.Causes.{MakesCandidate, AddsVersion}
 use Rattle.qu_class.specs.declared.class.Class.{Class}

@@ -1,5 +1,6 @@
-pub mod Streams
-pub mod Reads
-pub mod Writes
-pub mod InMemory
 pub mod FromStd
+pub mod InMemory
+pub mod Reads
+pub mod Streams
+pub mod Transfer
+pub mod Writes

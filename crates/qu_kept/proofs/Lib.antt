@@ -1,8 +1,8 @@
-pub mod KeyedLaws
 pub mod EachObject
+pub mod FitLinks
+pub mod KeyedLaws
 pub mod PerformedStates
+pub mod RisingForms
+pub mod RisingObjects
 pub mod RowLaws
 pub mod StandingLaws
-pub mod RisingObjects
-pub mod RisingForms
-pub mod FitLinks

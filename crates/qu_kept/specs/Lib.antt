@@ -1,4 +1,5 @@
 pub mod Keyed
-pub mod Rows
 pub mod Performing
+pub mod Remedy
+pub mod Rows
 pub mod Standing

@@ -23,9 +23,9 @@ use Rattle.qu_replica.specs.Step.{replica_step, replica_on_frame, replica_on_rec
 use Rattle.qu_fitting.proofs.FitRequests.{blank_sized}
 use Rattle.qu_client.specs.declared.state.ClientState.{ClientState}
 use Rattle.qu_client.specs.State.{Stepped}
-use Rattle.qu_counting.specs.declared.work.Work.{Work}
-use Rattle.qu_counting.specs.declared.whom.Whom.{Whom}
-use Rattle.qu_counting.specs.Whom.{is_asked}
+use Rattle.qu_client.specs.declared.work.Work.{Work}
+use Rattle.qu_client.specs.declared.whom.Whom.{Whom}
+use Rattle.qu_client.specs.Whom.{is_asked}
 use Rattle.qu_client.specs.Rounds.{requests_from, requests, request_of}
 use Rattle.qu_client.specs.Steps.{client_invoke, client_step, client_tick}
 use Rattle.qu_runs.proofs.Fits.ClientLetters.{step_sends, tick_sends, invoke_sends}

@@ -30,13 +30,13 @@ use Rattle.qu_rows.specs.Rows.{Asked, asked_at, asked_of, decision_on}
 use Rattle.qu_known.specs.Known.{Seen, see_letters, see_from, see_shown}
 use Rattle.qu_known.proofs.Happened.{none_tells}
 use Rattle.qu_runs.proofs.Fits.StepLetters.{CarriesOther, if_handled_each, on_frame_each}
-use Rattle.qu_handling.specs.Named.{named}
+use Rattle.qu_rows.specs.Named.{named}
 use Rattle.qu_replica.specs.Step.{shown, answer_frame, reply, fetches_of, carried_out, decided, learned, handled, if_handled, replica_on_frame, replica_on_received, replica_step}
 use Rattle.qu_fitting.specs.Fits.{StateFits}
 use Rattle.qu_replica.proofs.Fits.FitSteps.{learned-fits, handled-fits}
 use Rattle.qu_fitting.proofs.FitRequests.{RequestFits, request-fits}
 use Rattle.qu_replica.proofs.States.Learning.{Learned, is_learned}
-use Rattle.qu_lacking.specs.Waiting.{TakenRequest, request_frame_of}
+use Rattle.qu_waiting.specs.Waiting.{TakenRequest, request_frame_of}
 use Rattle.qu_mends.specs.declared.accepted.Accepted.{Accepted}
 use Rattle.qu_stamp.specs.declared.stamp.Stamp.{Stamp}
 use Rattle.qu_history.specs.History.{ObjectHistory}

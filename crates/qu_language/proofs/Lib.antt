@@ -1,5 +1,6 @@
-pub mod PartFacts
+pub mod CallFacts
 pub mod CommentFacts
 pub mod LiarFacts
+pub mod PartFacts
 pub mod PhaseFacts
-pub mod CallFacts
+pub mod ScriptFacts

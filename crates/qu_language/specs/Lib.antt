@@ -1,8 +1,8 @@
-pub mod Parts
-pub mod Operation
 pub mod Bringing
+pub mod Called
 pub mod Event
-pub mod Setup
+pub mod Operation
+pub mod Parts
 pub mod Phase
 pub mod Script
-pub mod Called
+pub mod Setup

@@ -5,7 +5,7 @@ use Rattle.qu_script_words.specs.declared.bad.Bad.{Bad}
 use Rattle.qu_script_words.specs.declared.bad.BadKind.TheVariants.{TooLong}
 use Rattle.qu_script_words.specs.Meaning.{then_good, at_line}
 use Rattle.qu_script_words.specs.Words.{words_in}
-use Rattle.qu_language.specs.declared.limits.TheConstants.{SCRIPT_LIMIT}
+use Rattle.qu_io.specs.declared.limits.TheConstants.{SCRIPT_LIMIT}
 use Rattle.qu_language.specs.declared.line.Script.{Script}
 use Rattle.qu_language.specs.declared.phase.Phase.{Phase}
 use Rattle.qu_language.specs.declared.phase.Phase.TheVariants.{NeedsBounds}

@@ -1,7 +1,4 @@
-ghost use Rattle.std.specs.Prelude.{◌≡◌, ◌^◌};
-
-/// The most bytes of a script, 16 MiB.
-pub const SCRIPT_LIMIT: usize = 1 << 24;
+ghost use Rattle.std.specs.Prelude.{◌≡◌};
 
 /// The most ticks of one line.
 pub const MOST_TICKS: u64 = 20_000;
@@ -11,7 +8,6 @@ pub const MOST_CALLS: usize = 1_000;
 
 /// The limits of this crate, by their numbers.
 pub fn limits_are_these()
-    ensures script_limit { SCRIPT_LIMIT ≡ 2 ^ 24 }
     ensures most_ticks { MOST_TICKS ≡ 20000 }
     ensures most_calls { MOST_CALLS ≡ 1000 }
 {}

@@ -24,7 +24,7 @@ use Rattle.qu_objects.specs.declared.state.ObjState.{ObjState}
 use Rattle.qu_versions.specs.Versions.{version_at, has_version}
 use Rattle.qu_class.specs.declared.class.Class.TheVariants.{Copy}
 use Rattle.qu_plan.specs.declared.plan.CopyPlan.{CopyPlan}
-use Rattle.qu_together.specs.Beside.{is_repairable}
+use Rattle.qu_plan.specs.Beside.{is_repairable}
 use Rattle.qu_plan.specs.Chosen.{chosen_on}
 use Rattle.qu_class.specs.Class.{class_in}
 use Rattle.qu_plan.specs.Copying.{link_from}

@@ -19,9 +19,9 @@ use Rattle.qu_class.specs.declared.class.Class.TheVariants.{Copy}
 use Rattle.qu_plan.specs.declared.plan.CopyPlan.{CopyPlan}
 use Rattle.qu_plan.specs.Chosen.{chosen_on}
 use Rattle.qu_class.specs.Class.{is_copy, listed_stamp, is_of_group, class_in}
-use Rattle.qu_together.specs.Linked.{is_at}
+use Rattle.qu_plan.specs.Linked.{is_at}
 use Rattle.qu_plan.specs.Copying.{is_joined, link_from, is_covered, is_outstanding, plan_fail_at, joint_part, joint_of, plan_of, Names}
-use Rattle.qu_together.specs.Beside.{reads, is_seen}
+use Rattle.qu_plan.specs.Beside.{reads, is_seen}
 use Rattle.qu_plan.specs.Linking.{Linking}
 use Rattle.qu_plan.proofs.Chosen.{chosen_reads}
 use Rattle.qu_plan.proofs.Copying.{IsCopied, is_plan, plan_copies}

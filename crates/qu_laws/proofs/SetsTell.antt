@@ -17,12 +17,12 @@ use Rattle.qu_history.specs.History.{holds}
 use Rattle.qu_history.specs.declared.sets.SetOf.{SetOf}
 use Rattle.qu_history.specs.Sets.{histories, entries_of, order_of, candidates_of, method_at}
 use Rattle.qu_class.specs.declared.class.Class.TheVariants.{Copy}
-use Rattle.qu_together.specs.Linked.{is_passed}
-use Rattle.qu_together.specs.Beside.{is_repairable}
+use Rattle.qu_plan.specs.Linked.{is_passed}
+use Rattle.qu_plan.specs.Beside.{is_repairable}
 use Rattle.qu_plan.specs.Chosen.{passes_over, is_passed_at, is_skipped, chosen_on}
 use Rattle.qu_class.specs.Class.{is_in_sets, listed_stamp, class_in}
 use Rattle.qu_plan.specs.Copying.{Names}
-use Rattle.qu_together.specs.Beside.{has_member, is_beside, reads, is_seen}
+use Rattle.qu_plan.specs.Beside.{has_member, is_beside, reads, is_seen}
 use Rattle.qu_plan.specs.Evidence.{if_seen, seen_for, is_read, method_key, read_key, evidence_of}
 use Rattle.qu_plan.specs.Linking.{Linking}
 use Rattle.qu_class.specs.Rows.{AreWellFormed, MayBeRepaired}

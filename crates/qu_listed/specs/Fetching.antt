@@ -11,7 +11,7 @@ use Rattle.qu_frames.specs.declared.frame.Letter.{Letter}
 use Rattle.qu_frames.specs.Decoding.{decoded}
 use Rattle.qu_versions.specs.Versions.{version_at}
 use Rattle.qu_rows.specs.State.{ReplicaState}
-use Rattle.qu_lacking.specs.Waiting.{Waiting}
+use Rattle.qu_waiting.specs.Waiting.{Waiting}
 use Rattle.qu_waiting.specs.Slots.{first_waiting}
 use Rattle.qu_waiting.specs.declared.counting.Counting.{Counting}
 use Rattle.qu_waiting.specs.declared.counting.Counting.TheVariants.{NotFetched, OtherKind, Twice, Counted, Found}

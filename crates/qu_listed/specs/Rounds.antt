@@ -11,12 +11,12 @@ use Rattle.qu_frames.specs.declared.frame.Frame.{Frame}
 use Rattle.qu_frames.specs.declared.frame.Frame.TheVariants as frame
 use Rattle.qu_question.specs.declared.kept.Kept.{Kept}
 use Rattle.qu_client.specs.declared.state.ClientState.{ClientState}
-use Rattle.qu_counting.specs.declared.work.Phase.{Phase}
-use Rattle.qu_counting.specs.declared.work.Phase.TheVariants.{Asking, Resting}
-use Rattle.qu_counting.specs.declared.work.Work.{Work}
+use Rattle.qu_client.specs.declared.work.Phase.{Phase}
+use Rattle.qu_client.specs.declared.work.Phase.TheVariants.{Asking, Resting}
+use Rattle.qu_client.specs.declared.work.Work.{Work}
 use Rattle.qu_question.specs.Kept.{is_left_out}
-use Rattle.qu_counting.specs.Verdicts.{is_agreed}
-use Rattle.qu_counting.specs.Work.{is_asking, with_reply}
+use Rattle.qu_client.specs.Verdicts.{is_agreed}
+use Rattle.qu_client.specs.Work.{is_asking, with_reply}
 use Rattle.qu_trace.specs.declared.event.Event.{Event}
 use Rattle.qu_trace.specs.declared.event.Event.TheVariants.{Invoke, Tick}
 use Rattle.qu_trace.specs.declared.trace.Setup.{Setup}

@@ -1,6 +1,6 @@
 //! How a client stands before an event at which it steps.
 use qu_base::ClientId;
-use qu_counting::Phase;
+use qu_client::Phase;
 
 /// Why a round is over.
 #[derive(Clone, Copy, PartialEq, Eq)]

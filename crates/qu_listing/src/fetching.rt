@@ -6,8 +6,7 @@ ghost use Rattle.qu_listed.specs.Fetching.{is_fetch, waits_text, wakes_text, fou
 use super::offer::Offer;
 use super::receivers::Receivers;
 use qu_base::{NoMemory, ObjectId, Party, ReadFail};
-use qu_decoding::decode;
-use qu_frames::{Frame, Letter};
+use qu_frames::{Frame, Letter, decode};
 use qu_replica::Replica;
 use qu_stamp::Stamp;
 use qu_waiting::{Counting, Waiting};

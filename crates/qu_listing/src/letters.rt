@@ -11,8 +11,7 @@ use super::names::put_party;
 use super::receivers::Receivers;
 use super::so_far::Sent;
 use qu_base::{List, NoMemory, ReadFail};
-use qu_decoding::decode;
-use qu_frames::Letter;
+use qu_frames::{Letter, decode};
 use std::alloc::Global;
 
 /// Writes a line for each letter behind those that were sent, and then knows of them too.

@@ -7,8 +7,7 @@ ghost use Rattle.qu_world.specs.Run.{IsSetup};
 ghost use Rattle.qu_world.specs.State.{opening_world};
 
 use qu_base::{Bounds, NoMemory, Party};
-use qu_decoding::receive;
-use qu_frames::Frame;
+use qu_frames::{Frame, receive};
 use qu_seal::KeyRing;
 use qu_trace::Setup;
 use qu_world::World;

@@ -1,14 +1,13 @@
 //! What becomes of a client's round at an event.
 ghost use Rattle.std.specs.Prelude.{◌≡◌, ◌++◌, true, OnOk, string_bytes};
 ghost use Rattle.std.specs.Option.{option_copied};
-ghost use Rattle.qu_counting.specs.Work.{is_asking};
+ghost use Rattle.qu_client.specs.Work.{is_asking};
 ghost use Rattle.qu_listed.specs.Rounds.{is_over, over_why_text, without_text, left_text, over_text, is_same_phase, is_same_round, is_unmoved, phase_text, goes_text, rounds_text};
 
 use super::names::{put_count, put_object, put_party};
 use super::told::{LinePart, put_all};
 use qu_base::{NoMemory, Party};
-use qu_client::Client;
-use qu_counting::{Phase, Work};
+use qu_client::{Client, Phase, Work};
 use qu_listed::{Round, Stood, Why};
 use qu_question::Kept;
 use qu_world::World;

@@ -5,8 +5,7 @@ ghost use Rattle.qu_listed.specs.Rounds.{offered_client, stepping_client, is_agr
 use super::offer::Offer;
 use super::receivers::Receivers;
 use qu_base::{ClientId, NoMemory, Party};
-use qu_client::Client;
-use qu_counting::{Work, is_agreed};
+use qu_client::{Client, Work, is_agreed};
 use qu_frames::Frame;
 use qu_listed::{Round, Stood, Why};
 use qu_trace::Event;

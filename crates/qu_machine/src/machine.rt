@@ -3,8 +3,8 @@ ghost use Rattle.qu_objects.specs.Kind.{fresh_value};
 ghost use Rattle.qu_machine.specs.Machine.{values_at, with_values, act_answer, act_values, query_answer};
 
 use qu_base::{List, NoMemory, ObjectId};
+use qu_kept::{PerformedValues, perform_on_values, tell_all};
 use qu_objects::{Act, Answer, KindName, Query, Value};
-use qu_performing::{PerformedValues, perform_on_values, tell_all};
 use std::alloc::Global;
 use std::marker::Model;
 

@@ -1,1 +1,2 @@
+pub mod FirstMark
 pub mod Tracker

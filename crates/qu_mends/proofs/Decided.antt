@@ -16,12 +16,12 @@ use Rattle.qu_kept.specs.Performing.{copied_state}
 use Rattle.qu_verdicts.specs.declared.verdict.Refusal.{Refusal}
 use Rattle.qu_verdicts.specs.declared.verdict.Refusal.TheVariants.{Needs, Stale, Sound, NotCurrent, TimeSpent, HistoryFull}
 use Rattle.qu_mends.specs.declared.accepted.Accepted.{Accepted}
-use Rattle.qu_remedies.specs.declared.remedy.Remedy.{Remedy}
-use Rattle.qu_remedies.specs.declared.remedy.Remedy.TheVariants.{Nothing, Shown, Fresh, Unshown, Unplanned, Outdated}
+use Rattle.qu_kept.specs.declared.remedy.Remedy.{Remedy}
+use Rattle.qu_kept.specs.declared.remedy.Remedy.TheVariants.{Nothing, Shown, Fresh, Unshown, Unplanned, Outdated}
 use Rattle.qu_mends.specs.declared.mend.Mend.{Mend}
 use Rattle.qu_mends.specs.declared.mending.Mending.{Mending}
 use Rattle.qu_mends.specs.declared.mending.Mending.TheVariants.{Mends, Holds, Refuses, Waits}
-use Rattle.qu_remedies.specs.Remedy.{added_for, wanted_by, stored_by}
+use Rattle.qu_kept.specs.Remedy.{added_for, wanted_by, stored_by}
 use Rattle.qu_mends.specs.Remedy.{MendPart, fresh_repair, addition_by, addition_of, part_addition, missing_key}
 use Rattle.qu_mends.specs.Table.{first_given, has_no_room}
 use Rattle.qu_mends.specs.Mending.{unplanned_by, is_held_in, is_held_part, is_overtaken, is_late, is_spent, missing_in, accepted_parts, unmended_by, mend_row_plan, mend_row_held, mend_row_current, mend_row_sound, mend_row_version, mend_row_time, mend_row_full, mend_row_mended, decide_mend}

@@ -24,10 +24,10 @@ use Rattle.qu_class.specs.Repairable.{object_base}
 use Rattle.qu_class.specs.Rows.{AllShown}
 use Rattle.qu_class.proofs.GroupRule.{inline_by, copy_in_sets}
 use Rattle.qu_plan.proofs.Copying.{IsCopied, plan_copies}
-use Rattle.qu_remedies.specs.declared.course.Course.{Course}
-use Rattle.qu_remedies.specs.declared.remedy.Remedy.{Remedy}
+use Rattle.qu_kept.specs.declared.course.Course.{Course}
+use Rattle.qu_kept.specs.declared.remedy.Remedy.{Remedy}
 use Rattle.qu_mends.specs.Causes.{AddsPlain}
-use Rattle.qu_remedies.specs.Remedy.{alone, whole_group, chosen_member, copied_member, remedies_by}
+use Rattle.qu_kept.specs.Remedy.{alone, whole_group, chosen_member, copied_member, remedies_by}
 use Rattle.qu_mends.specs.Remedy.{shown_member, copy_course, course_by, course_of}
 
 -- ---- they differ

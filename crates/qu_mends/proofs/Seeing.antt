@@ -16,8 +16,8 @@ use Rattle.qu_plan.specs.declared.plan.PlanFail.{PlanFail}
 use Rattle.qu_class.specs.Rows.{MayBeRepaired, IsClassIn}
 use Rattle.qu_class.proofs.ClassRows.{HasMethod}
 use Rattle.qu_plan.proofs.Versions.{object_is}
-use Rattle.qu_remedies.specs.declared.course.Course.{Course}
-use Rattle.qu_remedies.specs.Remedy.{copied_at, copy_of}
+use Rattle.qu_kept.specs.declared.course.Course.{Course}
+use Rattle.qu_kept.specs.Remedy.{copied_at, copy_of}
 use Rattle.qu_mends.specs.Remedy.{copy_course, course_by, IsGrounded}
 
 some_is : (candidate : Candidate) → IsSome (Some candidate)

@@ -9,13 +9,13 @@ use Rattle.qu_history.specs.History.{latest, holds}
 use Rattle.qu_verdicts.specs.declared.verdict.Refusal.{Refusal}
 use Rattle.qu_verdicts.specs.declared.verdict.Refusal.TheVariants.{Needs, Stale, NotCurrent, Sound, TimeSpent, HistoryFull}
 use Rattle.qu_mends.specs.declared.accepted.Accepted.{Accepted}
-use Rattle.qu_remedies.specs.declared.remedy.Remedy.{Remedy}
-use Rattle.qu_remedies.specs.declared.remedy.Remedy.TheVariants.{Nothing, Unshown, Unplanned, Outdated}
+use Rattle.qu_kept.specs.declared.remedy.Remedy.{Remedy}
+use Rattle.qu_kept.specs.declared.remedy.Remedy.TheVariants.{Nothing, Unshown, Unplanned, Outdated}
 use Rattle.qu_mends.specs.declared.mend.Mend.{Mend}
 use Rattle.qu_mends.specs.declared.mending.Mending.{Mending}
 use Rattle.qu_mends.specs.declared.mending.Mending.TheVariants.{Mends, Holds, Refuses, Waits}
 use Rattle.qu_mends.specs.Table.{first_given, has_no_room}
-use Rattle.qu_remedies.specs.Remedy.{stored_by}
+use Rattle.qu_kept.specs.Remedy.{stored_by}
 use Rattle.qu_mends.specs.Remedy.{MendPart, addition_of, part_addition, missing_key}
 
 -- there is no plan of the copy before more is known of an object, or of the target

@@ -22,10 +22,10 @@ use Rattle.qu_plan.specs.Copying.{plan_of}
 use Rattle.qu_plan.specs.Linking.{Linking}
 use Rattle.qu_class.specs.Repairable.{object_base}
 use Rattle.qu_class.specs.Rows.{MayBeRepaired, IsGreatestOfKind}
-use Rattle.qu_remedies.specs.declared.course.Course.{Course}
-use Rattle.qu_remedies.specs.declared.remedy.Remedy.{Remedy}
-use Rattle.qu_remedies.specs.declared.remedy.Remedy.TheVariants.{Nothing, Shown, Fresh, Unshown, Unplanned, Outdated}
-use Rattle.qu_remedies.specs.Remedy.{alone, whole_group, joint_course, remedies_by, fresh_for, added_for, wanted_by}
+use Rattle.qu_kept.specs.declared.course.Course.{Course}
+use Rattle.qu_kept.specs.declared.remedy.Remedy.{Remedy}
+use Rattle.qu_kept.specs.declared.remedy.Remedy.TheVariants.{Nothing, Shown, Fresh, Unshown, Unplanned, Outdated}
+use Rattle.qu_kept.specs.Remedy.{alone, whole_group, joint_course, remedies_by, fresh_for, added_for, wanted_by}
 use Rattle.qu_mends.specs.declared.mend.Mend.{Mend}
 
 abbrev pub base_on : ℕ → List SetOf → ObjectId → Candidate

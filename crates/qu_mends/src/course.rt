@@ -10,8 +10,8 @@ ghost use Rattle.qu_mends.specs.Remedy.{inline_course, shown_member, copy_course
 use qu_base::{Bounds, List, NoMemory, ObjectId};
 use qu_class::{Class, classify, object_base};
 use qu_history::Sets;
+use qu_kept::{Course, Remedy, group_of};
 use qu_plan::{CopyPlan, Fact, PlanFail, plan_copy};
-use qu_remedies::{Course, Remedy, group_of};
 use qu_stamp::Candidate;
 use std::alloc::Global;
 

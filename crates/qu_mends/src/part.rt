@@ -6,8 +6,8 @@ ghost use Rattle.qu_mends.specs.Remedy.{missing_key};
 use crate::table::has_no_room;
 use qu_base::ObjectId;
 use qu_history::History;
+use qu_kept::Remedy;
 use qu_objects::ObjState;
-use qu_remedies::Remedy;
 use qu_stamp::{Candidate, Stamp};
 use std::marker::Model;
 
@@ -73,7 +73,7 @@ impl<'a> Part<'a> {
     }
 
     /// The version that is missing, as a key.
-    #[tactic(auto, unfolding(qu_remedies::specs::Remedy::wanted_by))]
+    #[tactic(auto, unfolding(qu_kept::specs::Remedy::wanted_by))]
     pub(crate) fn missing(&self) -> Option<(ObjectId, Stamp)>
         ensures { result ≡ missing_key self.now }
     {

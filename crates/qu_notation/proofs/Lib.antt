@@ -1,2 +1,4 @@
-pub mod TextFacts
+pub mod AskFacts
 pub mod NameFacts
+pub mod TextFacts
+pub mod WordFacts

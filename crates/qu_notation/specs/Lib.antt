@@ -1,5 +1,6 @@
-pub mod Text
-pub mod Digits
-pub mod Numbers
 pub mod Bytes
+pub mod Digits
 pub mod Names
+pub mod Numbers
+pub mod Text
+pub mod Words

@@ -1,8 +1,7 @@
 use super::made::{history_with, keys, whole};
 use qu_adversary::{fetched_of, reply_of, request_of, sealed_for};
 use qu_base::{ClientId, List, ObjectId, Party, ReplicaId};
-use qu_decoding::receive;
-use qu_frames::{Body, Frame, Refusal, Verdict};
+use qu_frames::{Body, Frame, Refusal, Verdict, receive};
 use qu_history::{Sealed, SetOf, Sets};
 use qu_objects::{Act, Method};
 use qu_seal::KeyRing;

@@ -1,6 +1,5 @@
 use qu_base::{ClientId, List, ObjectId, Party, ReplicaId};
-use qu_decoding::decode;
-use qu_frames::{Body, Frame, Letter, encode};
+use qu_frames::{Body, Frame, Letter, decode, encode};
 use qu_testing::holds;
 use std::alloc::Global;
 use std::test::Fail;

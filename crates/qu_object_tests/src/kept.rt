@@ -1,8 +1,7 @@
 use kind_counter::Counter;
 use qu_base::{ClientId, List, ObjectId};
-use qu_kept::{Standing, standing_of};
+use qu_kept::{Performed, Standing, perform, standing_of};
 use qu_objects::{Act, Answer, Item, Method, ObjState, UNDER, Value, act_digest};
-use qu_performing::{Performed, perform};
 use qu_stamp::Stamp;
 use qu_testing::holds;
 use std::alloc::Global;

@@ -2,8 +2,7 @@
 
 use super::made::{history_with, keys, one_object};
 use qu_base::{ClientId, List, ObjectId, Party, ReplicaId};
-use qu_decoding::decode;
-use qu_frames::{Body, Frame, Letter, Refusal, Verdict, blank_mac};
+use qu_frames::{Body, Frame, Letter, Refusal, Verdict, blank_mac, decode};
 use qu_history::{Sealed, Sets};
 use qu_objects::{Act, KindName, Method};
 use qu_replica::Replica;

@@ -14,9 +14,9 @@ use Rattle.qu_history.specs.History.{ObjectHistory, holds}
 use Rattle.qu_history.specs.Sets.{entries_of, order_of, candidates_of, greatest}
 use Rattle.qu_history.specs.declared.sets.SetOf.{SetOf}
 use Rattle.qu_history.proofs.Greatest.{greatest_cases, holds-filter, holds_in_filter}
-use Rattle.qu_together.specs.Beside.{is_repairable}
+use Rattle.qu_plan.specs.Beside.{is_repairable}
 use Rattle.qu_plan.specs.Chosen.{is_skipped, may_be_chosen, greatest_chosen, chosen_on}
-use Rattle.qu_together.specs.Beside.{has_member, is_beside, reads}
+use Rattle.qu_plan.specs.Beside.{has_member, is_beside, reads}
 use Rattle.qu_plan.specs.Linking.{Linking}
 use Rattle.qu_class.specs.Rows.{AreWellFormed, MayBeRepaired}
 use Rattle.qu_class.proofs.OfKind.{held_by_order, held_if_repairable, order_of_opening, some_repair, repair_within_quorum}

@@ -1,7 +1,8 @@
-pub mod Versions
-pub mod Parts
-pub mod Chosen
-pub mod PlanEvidence
-pub mod Copying
-pub mod SameShown
 pub mod Agreeing
+pub mod Chosen
+pub mod Copying
+pub mod EntryTests
+pub mod Parts
+pub mod PlanEvidence
+pub mod SameShown
+pub mod Versions

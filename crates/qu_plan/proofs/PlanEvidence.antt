@@ -17,13 +17,13 @@ use Rattle.qu_history.specs.declared.sets.SetOf.{SetOf}
 use Rattle.qu_history.specs.Sets.{entries_of, candidates_of, method_at, greatest}
 use Rattle.qu_plan.specs.declared.plan.PlanFail.{PlanFail}
 use Rattle.qu_plan.specs.declared.plan.PlanFail.TheVariants.{Needs, Stale}
-use Rattle.qu_together.specs.Linked.{is_passed}
-use Rattle.qu_together.specs.Beside.{is_repairable}
+use Rattle.qu_plan.specs.Linked.{is_passed}
+use Rattle.qu_plan.specs.Beside.{is_repairable}
 use Rattle.qu_plan.specs.Chosen.{passes_over, is_passed_at, is_skipped, may_be_chosen, greatest_chosen, chosen_on}
 use Rattle.qu_class.specs.Class.{is_copy, is_in_sets, listed_stamp, is_of_group, class_in}
-use Rattle.qu_together.specs.Linked.{is_at, is_above}
+use Rattle.qu_plan.specs.Linked.{is_at, is_above}
 use Rattle.qu_plan.specs.Copying.{is_joined, link_from, member_link, is_covered, is_outstanding, plan_fail_at, first_fail, joint_part, joint_of, plan_with, plan_by, plan_of}
-use Rattle.qu_together.specs.Beside.{has_member, is_beside, reads, is_seen}
+use Rattle.qu_plan.specs.Beside.{has_member, is_beside, reads, is_seen}
 use Rattle.qu_plan.specs.Evidence.{if_seen, seen_for, is_read, method_key, read_key, evidence_of, AreAlike}
 use Rattle.qu_plan.specs.Linking.{Linking}
 use Rattle.qu_plan.proofs.Chosen.{any_of_entries, chosen_reads}

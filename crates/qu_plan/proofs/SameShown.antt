@@ -18,7 +18,7 @@ use Rattle.qu_plan.specs.declared.plan.PlanFail.{PlanFail}
 use Rattle.qu_plan.specs.declared.plan.PlanFail.TheVariants.{Needs as Wants, Stale}
 use Rattle.qu_plan.specs.Chosen.{passes_over, is_skipped, greatest_chosen, chosen_on}
 use Rattle.qu_class.specs.Class.{is_copy, is_in_sets, listed_stamp, is_of_group, agrees, class_of, inline_class, with_members, class_in}
-use Rattle.qu_together.specs.Linked.{is_at, is_above}
+use Rattle.qu_plan.specs.Linked.{is_at, is_above}
 use Rattle.qu_plan.specs.Copying.{is_joined, link_from, plan_fail_at, joint_of, plan_with, plan_of}
 use Rattle.qu_plan.specs.Linking.{Linking}
 use Rattle.qu_class.specs.Repairable.{is_shown_of_kind}

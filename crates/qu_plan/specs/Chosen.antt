@@ -11,8 +11,8 @@ use Rattle.qu_history.specs.declared.sets.SetOf.{SetOf}
 use Rattle.qu_history.specs.Sets.{entries_of, candidates_of, greatest, method_at}
 use Rattle.qu_class.specs.Class.{listed_stamp}
 use Rattle.qu_plan.specs.Linking.{Linking}
-use Rattle.qu_together.specs.Linked.{is_passed}
-use Rattle.qu_together.specs.Beside.{is_repairable}
+use Rattle.qu_plan.specs.Linked.{is_passed}
+use Rattle.qu_plan.specs.Beside.{is_repairable}
 
 -- the version of the other object is above this stamp of it, and does not link the object to this stamp or a later one
 unfoldable pub passes_over : Linking → ObjectId → ObjectId → Stamp → Option Candidate → Bool

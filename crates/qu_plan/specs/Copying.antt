@@ -13,7 +13,7 @@ use Rattle.qu_plan.specs.declared.plan.PlanFail.TheVariants.{Needs, Stale}
 use Rattle.qu_plan.specs.Chosen.{chosen_on}
 use Rattle.qu_class.specs.Class.{is_copy, listed_stamp, is_of_group, class_in}
 use Rattle.qu_plan.specs.Linking.{Linking}
-use Rattle.qu_together.specs.Linked.{is_at, is_above}
+use Rattle.qu_plan.specs.Linked.{is_at, is_above}
 
 -- the member's object may be copied with the candidate's: what is chosen there was accepted together with it
 unfoldable pub is_joined : ℕ → List SetOf → Linking → Candidate → ObjectId × ℕ → Bool

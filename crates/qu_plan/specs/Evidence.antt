@@ -8,7 +8,7 @@ use Rattle.qu_stamp.specs.declared.candidate.Candidate.{Candidate}
 use Rattle.qu_history.specs.declared.sets.SetOf.{SetOf}
 use Rattle.qu_history.specs.Sets.{entries_of, method_at}
 use Rattle.qu_plan.specs.Linking.{Linking}
-use Rattle.qu_together.specs.Beside.{reads, is_seen}
+use Rattle.qu_plan.specs.Beside.{reads, is_seen}
 
 abbrev pub if_seen : ℕ → List SetOf → ObjectId → ObjectId → Option ObjectId
 if_seen bounds sets target over = if is_seen bounds sets target over then Some over else None

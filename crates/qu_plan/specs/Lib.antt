@@ -1,5 +1,7 @@
-pub mod Linking
+pub mod Beside
 pub mod Chosen
-pub mod Knowledge
-pub mod Evidence
 pub mod Copying
+pub mod Evidence
+pub mod Knowledge
+pub mod Linked
+pub mod Linking

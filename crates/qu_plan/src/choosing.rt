@@ -7,11 +7,11 @@ ghost use Rattle.qu_plan.specs.Linking.{linking};
 ghost use Rattle.qu_class.specs.Rows.{AreWellFormed};
 
 use super::known::Known;
+use crate::linked::is_passed;
 use qu_base::ObjectId;
 use qu_class::{is_shown_of_kind, member_stamp};
 use qu_history::{History, greater_found};
 use qu_stamp::Candidate;
-use qu_together::is_passed;
 
 /// What a copy on the object copies: the greatest candidate without barrier that may be repaired and is not skipped.
 pub(super) fn chosen_on(known: &Known<'_>, object: ObjectId) -> Candidate

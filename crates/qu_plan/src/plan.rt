@@ -10,11 +10,12 @@ ghost use Rattle.qu_plan.specs.Linking.{linking};
 use super::choosing::chosen_on;
 use super::fact::Fact;
 use super::known::Known;
+use crate::beside::is_copy;
+use crate::linked::{is_above, is_at};
 use qu_base::{Bounds, List, NoMemory, ObjectId};
 use qu_class::{classify, is_companion, member_stamp};
 use qu_history::Sets;
 use qu_stamp::{Candidate, Stamp};
-use qu_together::{is_above, is_at, is_copy};
 use std::alloc::Global;
 
 /// What a copy copies.

@@ -3,13 +3,13 @@ ghost use Rattle.std.specs.List.{list_any};
 ghost use Rattle.qu_plan.specs.Copying.{plan_of};
 ghost use Rattle.qu_plan.specs.Evidence.{if_seen, seen_for, is_read, read_key, evidence_of, AreAlike};
 ghost use Rattle.qu_plan.specs.Linking.{Linking};
-ghost use Rattle.qu_together.specs.Beside.{reads};
+ghost use Rattle.qu_plan.specs.Beside.{reads};
 
+use crate::beside::{is_seen, reads};
 use qu_base::{Bounds, List, NoMemory, ObjectId};
 use qu_class::method_at;
 use qu_history::Sets;
 use qu_stamp::Stamp;
-use qu_together::{is_seen, reads};
 use std::alloc::Global;
 
 /// The versions on which the plan of a copy rests, as object and stamp, by rising object: those of class METHOD of the

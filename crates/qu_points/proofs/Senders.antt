@@ -17,7 +17,7 @@ use Rattle.qu_rows.specs.declared.decision.Decision.{Decision}
 use Rattle.qu_rows.specs.declared.decision.Decision.TheVariants.{Answers, Waits}
 use Rattle.qu_rows.specs.Rows.{asked_at, decision_on}
 use Rattle.qu_rows.specs.State.{ReplicaState}
-use Rattle.qu_lacking.specs.Waiting.{TakenRequest}
+use Rattle.qu_waiting.specs.Waiting.{TakenRequest}
 use Rattle.qu_replica.specs.Step.{fetches_from, fetches_of, version_letters, carried_out, handled, learned, if_handled, replica_on_frame, replica_on_received, replica_step}
 use Rattle.qu_trace.specs.Faulty.{is_replica}
 use Rattle.qu_world.proofs.Each.{each_append}

@@ -24,7 +24,7 @@ use Rattle.qu_claims.specs.Handled.{Request, handled_by}
 use Rattle.qu_claims.specs.Answers.{answers, round_in}
 use Rattle.qu_known.specs.declared.answers.Answered.{Answered}
 use Rattle.qu_known.specs.declared.tracked.Tracked.{Tracked}
-use Rattle.qu_first_marks.specs.FirstMark.{first_mark}
+use Rattle.qu_marks.specs.FirstMark.{first_mark}
 use Rattle.qu_claims.specs.Order.{DecidesAt, query_effect, op_bytes, is_earlier, are_in_order}
 
 -- the round of the answer that a frame is

@@ -1,2 +1,4 @@
 pub mod LineFacts
+pub mod RangeFacts
+pub mod ReportFacts
 pub mod SumFacts

@@ -1,6 +1,6 @@
-pub mod Lines
-pub mod Words
-pub mod Timeline
 pub mod Ends
+pub mod Lines
 pub mod Report
 pub mod Summary
+pub mod Timeline
+pub mod Words

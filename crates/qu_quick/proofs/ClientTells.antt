@@ -23,12 +23,12 @@ use Rattle.qu_verdicts.specs.declared.verdict.Verdict.{Verdict}
 use Rattle.qu_verdicts.specs.declared.verdict.Verdict.TheVariants as verdict
 use Rattle.qu_verdicts.specs.Verdict.{same_stamps, same_verdict}
 use Rattle.qu_client.specs.declared.state.ClientState.{ClientState}
-use Rattle.qu_counting.specs.declared.work.Counted.{Counted}
-use Rattle.qu_counting.specs.declared.work.Work.{Work}
+use Rattle.qu_client.specs.declared.work.Counted.{Counted}
+use Rattle.qu_client.specs.declared.work.Work.{Work}
 use Rattle.qu_client.specs.State.{Stepped}
 use Rattle.qu_question.specs.Kept.{keep_all}
-use Rattle.qu_counting.specs.Verdicts.{identical_verdicts, has_replied}
-use Rattle.qu_counting.specs.Work.{counts, is_asking, with_verdict}
+use Rattle.qu_client.specs.Verdicts.{identical_verdicts, has_replied}
+use Rattle.qu_client.specs.Work.{counts, is_asking, with_verdict}
 use Rattle.qu_client.specs.Steps.{stays, ends, judged, client_on_frame}
 use Rattle.qu_world.proofs.Each.{each_append}
 

@@ -29,8 +29,8 @@ use Rattle.qu_mends.specs.declared.accepted.Accepted.{Accepted}
 use Rattle.qu_rows.specs.State.{ReplicaState}
 use Rattle.qu_fitting.specs.Holding.{accept_all}
 use Rattle.qu_rows.specs.Rows.{unknown_in}
-use Rattle.qu_lacking.specs.Waiting.{TakenRequest}
-use Rattle.qu_handling.specs.Named.{named}
+use Rattle.qu_waiting.specs.Waiting.{TakenRequest}
+use Rattle.qu_rows.specs.Named.{named}
 use Rattle.qu_replica.specs.Step.{shown, answer_frame, reply, carried_out, replica_on_received, replica_step}
 use Rattle.qu_replica.specs.Growth.{Grows}
 use Rattle.qu_replica.proofs.States.Accepting.{accept_all-named}

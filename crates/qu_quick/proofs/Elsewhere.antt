@@ -16,9 +16,9 @@ use Rattle.qu_frames.specs.declared.frame.Letter.{Letter}
 use Rattle.qu_rows.specs.State.{ReplicaState}
 use Rattle.qu_replica.specs.Step.{replica_step}
 use Rattle.qu_client.specs.declared.state.ClientState.{ClientState}
-use Rattle.qu_counting.specs.declared.whom.Whom.{Whom}
-use Rattle.qu_counting.specs.declared.work.Work.{Work}
-use Rattle.qu_counting.specs.Whom.{is_asked}
+use Rattle.qu_client.specs.declared.whom.Whom.{Whom}
+use Rattle.qu_client.specs.declared.work.Work.{Work}
+use Rattle.qu_client.specs.Whom.{is_asked}
 use Rattle.qu_client.specs.Rounds.{requests_from}
 use Rattle.qu_client.specs.State.{Stepped}
 use Rattle.qu_client.specs.Steps.{client_invoke, client_step, client_tick}

@@ -15,8 +15,8 @@ use Rattle.qu_base.specs.declared.party.Party.TheVariants as party
 use Rattle.qu_base.specs.Bounds.{AreThresholds}
 use Rattle.qu_seal.specs.Keys.{Ring}
 use Rattle.qu_stamp.specs.declared.candidate.Candidate.{Candidate}
-use Rattle.qu_pick.specs.AskedFirst.{how_many_preferred}
-use Rattle.qu_pick.proofs.AskedFirst.{preferred_make_a_quorum}
+use Rattle.qu_client.specs.AskedFirst.{how_many_preferred}
+use Rattle.qu_client.proofs.AskedFirst.{preferred_make_a_quorum}
 use Rattle.qu_history.specs.declared.sets.SetOf.{SetOf}
 use Rattle.qu_history.specs.History.{ObjectHistory}
 use Rattle.qu_history.specs.Sets.{histories, entries_of, method_at, order_of}
@@ -31,16 +31,16 @@ use Rattle.qu_frames.specs.Body.{body_of}
 use Rattle.qu_frames.specs.declared.frame.Body.TheVariants as body
 use Rattle.qu_frames.specs.declared.frame.Letter.{Letter}
 use Rattle.qu_grounds.proofs.Grounds.{IsBase, is_base}
-use Rattle.qu_counting.specs.declared.whom.Whom.{Whom}
-use Rattle.qu_counting.specs.declared.whom.Whom.TheVariants.{Preferred}
-use Rattle.qu_counting.specs.declared.work.Work.{Work}
+use Rattle.qu_client.specs.declared.whom.Whom.{Whom}
+use Rattle.qu_client.specs.declared.whom.Whom.TheVariants.{Preferred}
+use Rattle.qu_client.specs.declared.work.Work.{Work}
 use Rattle.qu_question.specs.declared.question.Question.{Question}
 use Rattle.qu_client.specs.declared.state.ClientState.{ClientState}
 use Rattle.qu_question.specs.Named.{operation_objects}
 use Rattle.qu_question.specs.Question.{set_of, sets_of, are_full, are_current, need_of, lower_of, lowest_needed, named_for, asked_upon}
 use Rattle.qu_question.proofs.Building.{named_for-none, class_at_method}
-use Rattle.qu_counting.specs.Whom.{is_asked}
-use Rattle.qu_counting.specs.Work.{work_asking}
+use Rattle.qu_client.specs.Whom.{is_asked}
+use Rattle.qu_client.specs.Work.{work_asking}
 use Rattle.qu_client.specs.Rounds.{requests_from, begins}
 use Rattle.qu_client.specs.State.{Stepped}
 use Rattle.qu_question.specs.Kept.{unmarked}

@@ -24,12 +24,12 @@ use Rattle.qu_frames.specs.declared.frame.Letter.{Letter}
 use Rattle.qu_verdicts.specs.declared.verdict.Verdict.{Verdict}
 use Rattle.qu_verdicts.specs.declared.verdict.Verdict.TheVariants as verdict
 use Rattle.qu_client.specs.declared.state.ClientState.{ClientState}
-use Rattle.qu_counting.specs.declared.work.Counted.{Counted}
-use Rattle.qu_counting.specs.declared.work.Work.{Work}
+use Rattle.qu_client.specs.declared.work.Counted.{Counted}
+use Rattle.qu_client.specs.declared.work.Work.{Work}
 use Rattle.qu_client.specs.State.{Stepped}
 use Rattle.qu_question.specs.Kept.{keep_all}
-use Rattle.qu_counting.specs.Verdicts.{has_replied}
-use Rattle.qu_counting.specs.Work.{is_asking, with_reply, with_verdict}
+use Rattle.qu_client.specs.Verdicts.{has_replied}
+use Rattle.qu_client.specs.Work.{is_asking, with_reply, with_verdict}
 use Rattle.qu_client.specs.Steps.{stays, ends, client_step, client_on_frame}
 use Rattle.qu_trace.specs.declared.event.Event.{Event}
 use Rattle.qu_trace.specs.declared.trace.Entry.{Entry}

@@ -23,9 +23,9 @@ use Rattle.qu_frames.specs.declared.frame.Letter.{Letter}
 use Rattle.qu_machine.specs.declared.record.OpRecord.{OpRecord}
 use Rattle.qu_rows.specs.State.{ReplicaState}
 use Rattle.qu_client.specs.declared.state.ClientState.{ClientState}
-use Rattle.qu_counting.specs.declared.whom.Whom.TheVariants.{Preferred}
-use Rattle.qu_counting.specs.declared.work.Work.{Work}
-use Rattle.qu_counting.specs.Whom.{first_object}
+use Rattle.qu_client.specs.declared.whom.Whom.TheVariants.{Preferred}
+use Rattle.qu_client.specs.declared.work.Work.{Work}
+use Rattle.qu_client.specs.Whom.{first_object}
 use Rattle.qu_client.specs.Rounds.{requests, request_of}
 use Rattle.qu_client.specs.Rounds as rounds
 use Rattle.qu_client.specs.State.{Stepped}

@@ -13,7 +13,7 @@ use Rattle.qu_rows.specs.State.{ReplicaState}
 use Rattle.qu_replica.specs.Step.{replica_step}
 use Rattle.qu_client.specs.declared.state.ClientState.{ClientState}
 use Rattle.qu_client.specs.State.{Stepped}
-use Rattle.qu_counting.specs.declared.work.Work.{Work}
+use Rattle.qu_client.specs.declared.work.Work.{Work}
 use Rattle.qu_client.specs.Steps.{client_invoke, client_step, client_tick}
 use Rattle.qu_trace.specs.Faulty.{is_same, is_faulty}
 use Rattle.qu_trace.specs.Letters.{letters_of}

@@ -15,7 +15,7 @@ use Rattle.qu_objects.specs.declared.op.Outcome.{Outcome}
 use Rattle.qu_frames.specs.declared.frame.Letter.{Letter}
 use Rattle.qu_client.specs.declared.state.ClientState.{ClientState}
 use Rattle.qu_client.specs.State.{Stepped, client_at_start}
-use Rattle.qu_counting.specs.declared.work.Work.{Work}
+use Rattle.qu_client.specs.declared.work.Work.{Work}
 use Rattle.qu_client.specs.Steps.{client_invoke, client_step, client_tick}
 use Rattle.qu_client.specs.Sound.{NumbersWithin}
 use Rattle.qu_client.proofs.Cases.{OfEach, step_cases, tick_cases, invoke_cases}

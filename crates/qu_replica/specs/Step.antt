@@ -17,7 +17,7 @@ use Rattle.qu_objects.specs.declared.kind.KindName.TheVariants as kind
 use Rattle.qu_objects.specs.declared.kind.Value.{Value}
 use Rattle.qu_objects.specs.declared.kind.Value.TheVariants.{Counter, Blob, Dir}
 use Rattle.qu_objects.specs.States.{state_form}
-use Rattle.qu_sync.specs.Fetching.{completes}
+use Rattle.qu_waiting.specs.Fetching.{completes}
 use Rattle.qu_versions.specs.Versions.{version_at, with_version}
 use Rattle.qu_frames.specs.declared.frame.Frame.{Frame}
 use Rattle.qu_frames.specs.declared.frame.Frame.TheVariants as frame
@@ -27,13 +27,13 @@ use Rattle.qu_frames.specs.Blank.{blank_mac}
 use Rattle.qu_frames.specs.Signing.{signed, brought}
 use Rattle.qu_rows.specs.declared.decision.Decision.{Decision}
 use Rattle.qu_rows.specs.declared.decision.Decision.TheVariants.{Answers, Waits}
-use Rattle.qu_lacking.specs.Waiting.{TakenRequest, Running}
+use Rattle.qu_waiting.specs.Waiting.{TakenRequest, Running}
 use Rattle.qu_rows.specs.State.{ReplicaState}
 use Rattle.qu_fitting.specs.Holding.{accept_all}
 use Rattle.qu_waiting.specs.declared.counting.Counting.{Counting}
 use Rattle.qu_waiting.specs.Slots.{with_slot, with_fetches, with_votes, without_fetch, counting_of, fetch_under, first_waiting, without_request}
 use Rattle.qu_rows.specs.Rows.{asked_at, decision_on}
-use Rattle.qu_handling.specs.Named.{named}
+use Rattle.qu_rows.specs.Named.{named}
 
 -- the histories of those objects of the sets that the replica has, as they stand
 unfoldable pub shown : ReplicaState → List SetOf → List ObjectHistory

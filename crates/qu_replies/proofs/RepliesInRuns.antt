@@ -46,7 +46,7 @@ use Rattle.qu_versions.specs.Versions.{version_at}
 use Rattle.qu_frames.specs.declared.frame.Frame.{Frame}
 use Rattle.qu_frames.specs.declared.frame.Frame.TheVariants as frame
 use Rattle.qu_replica.specs.Growth.{HoldsAlike}
-use Rattle.qu_lacking.specs.Waiting.{TakenRequest}
+use Rattle.qu_waiting.specs.Waiting.{TakenRequest}
 
 -- ---- bodies
 

@@ -24,13 +24,13 @@ use Rattle.qu_rows.specs.declared.decision.Decision.TheVariants.{Answers}
 use Rattle.qu_rows.specs.State.{ReplicaState}
 use Rattle.qu_fitting.specs.Holding.{accept_all}
 use Rattle.qu_rows.specs.Rows.{asked_at, decision_on}
-use Rattle.qu_handling.specs.Named.{named}
+use Rattle.qu_rows.specs.Named.{named}
 use Rattle.qu_replica.specs.Step.{answer_frame, reply, replica_on_frame, replica_on_received, replica_step, learned, handled}
 use Rattle.qu_replica.specs.Step as own
 use Rattle.qu_client.specs.declared.state.ClientState.{ClientState}
 use Rattle.qu_client.specs.State.{Stepped}
-use Rattle.qu_counting.specs.declared.work.Work.{Work}
-use Rattle.qu_counting.specs.declared.whom.Whom.{Whom}
+use Rattle.qu_client.specs.declared.work.Work.{Work}
+use Rattle.qu_client.specs.declared.whom.Whom.{Whom}
 use Rattle.qu_client.specs.Rounds.{request_of, requests}
 use Rattle.qu_client.proofs.Sent.{each_letter}
 use Rattle.qu_client.specs.Steps.{client_invoke, client_step, client_tick}
@@ -69,7 +69,7 @@ use Rattle.qu_rows.specs.Allowed.{has_parts}
 use Rattle.qu_trace.specs.Faulty.{is_faulty}
 use Rattle.qu_shown.proofs.AskedLetters.{AskedBy, asked_letter}
 use Rattle.qu_frames.specs.Decoding.{decoded}
-use Rattle.qu_lacking.specs.Waiting.{TakenRequest}
+use Rattle.qu_waiting.specs.Waiting.{TakenRequest}
 use Rattle.qu_replica.proofs.States.Growth.{accept_all-me}
 use Rattle.qu_replica.proofs.States.Learning.{is_learned}
 

@@ -18,12 +18,12 @@ use Rattle.qu_frames.specs.Formats.{frame_form}
 use Rattle.qu_frames.specs.Signing.{brought, signed, signature, with_mac}
 use Rattle.qu_rows.specs.State.{ReplicaState}
 use Rattle.qu_fitting.specs.Holding.{accept_all}
-use Rattle.qu_handling.specs.Named.{named}
+use Rattle.qu_rows.specs.Named.{named}
 use Rattle.qu_replica.specs.Step.{shown, reply, learned, replica_step, answer_frame}
 use Rattle.qu_replica.specs.Step as replica
 use Rattle.qu_fitting.proofs.FitRequests.{blank_sized}
-use Rattle.qu_counting.specs.declared.work.Work.{Work}
-use Rattle.qu_counting.specs.declared.whom.Whom.{Whom}
+use Rattle.qu_client.specs.declared.work.Work.{Work}
+use Rattle.qu_client.specs.declared.whom.Whom.{Whom}
 use Rattle.qu_client.specs.Rounds.{request_of, requests}
 use Rattle.qu_client.proofs.Sent.{all_letters}
 use Rattle.qu_claims.specs.Carried.{Carries, Asks}

@@ -23,10 +23,10 @@ use Rattle.qu_frames.specs.declared.frame.Letter.{Letter}
 use Rattle.qu_verdicts.specs.declared.verdict.Verdict.{Verdict}
 use Rattle.qu_verdicts.specs.Verdict.{same_verdict}
 use Rattle.qu_client.specs.declared.state.ClientState.{ClientState}
-use Rattle.qu_counting.specs.declared.work.Counted.{Counted}
-use Rattle.qu_counting.specs.declared.work.Work.{Work}
-use Rattle.qu_counting.specs.Verdicts.{fitting, identical_verdicts}
-use Rattle.qu_counting.specs.Work.{is_asking, counts, with_verdict}
+use Rattle.qu_client.specs.declared.work.Counted.{Counted}
+use Rattle.qu_client.specs.declared.work.Work.{Work}
+use Rattle.qu_client.specs.Verdicts.{fitting, identical_verdicts}
+use Rattle.qu_client.specs.Work.{is_asking, counts, with_verdict}
 use Rattle.qu_client.specs.Steps.{client_invoke, client_step, client_tick}
 use Rattle.qu_client.specs.Sound.{IsFor}
 use Rattle.qu_client.proofs.Cases.{invoke_cases}

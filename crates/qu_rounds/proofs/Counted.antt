@@ -15,11 +15,11 @@ use Rattle.qu_frames.specs.declared.frame.Letter.{Letter}
 use Rattle.qu_verdicts.specs.declared.verdict.Verdict.{Verdict}
 use Rattle.qu_client.specs.declared.state.ClientState.{ClientState}
 use Rattle.qu_client.specs.State.{Stepped}
-use Rattle.qu_counting.specs.declared.work.Counted.{Counted}
-use Rattle.qu_counting.specs.declared.work.Work.{Work}
+use Rattle.qu_client.specs.declared.work.Counted.{Counted}
+use Rattle.qu_client.specs.declared.work.Work.{Work}
 use Rattle.qu_client.specs.State.{client_at_start}
 use Rattle.qu_question.specs.Kept.{keep_all}
-use Rattle.qu_counting.specs.Work.{is_asking, counts, with_verdict}
+use Rattle.qu_client.specs.Work.{is_asking, counts, with_verdict}
 use Rattle.qu_client.specs.Steps.{client_on_frame, client_on_received, client_step, client_invoke, client_tick, next_round, ends_round}
 use Rattle.qu_client.specs.Sound.{IsSound}
 use Rattle.qu_rounds.proofs.Ticking.{clock_cases}

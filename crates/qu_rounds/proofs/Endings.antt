@@ -14,10 +14,10 @@ use Rattle.qu_frames.specs.declared.frame.Frame.TheVariants as frame
 use Rattle.qu_verdicts.specs.declared.verdict.Verdict.{Verdict}
 use Rattle.qu_client.specs.declared.state.ClientState.{ClientState}
 use Rattle.qu_client.specs.State.{Stepped}
-use Rattle.qu_counting.specs.declared.work.Work.{Work}
+use Rattle.qu_client.specs.declared.work.Work.{Work}
 use Rattle.qu_question.specs.Kept.{keep_all}
-use Rattle.qu_counting.specs.Verdicts.{fitting, identical_verdicts}
-use Rattle.qu_counting.specs.Work.{counts, with_verdict}
+use Rattle.qu_client.specs.Verdicts.{fitting, identical_verdicts}
+use Rattle.qu_client.specs.Work.{counts, with_verdict}
 use Rattle.qu_client.specs.Steps.{client_on_frame, client_on_received, client_step, client_tick, next_round, ends_round}
 use Rattle.qu_rounds.proofs.Ticking.{clock_cases}
 use Rattle.qu_client.proofs.Cases.{counted_cases, next_cases, ended_cases}

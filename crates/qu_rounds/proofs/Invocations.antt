@@ -21,7 +21,7 @@ use Rattle.qu_rows.specs.State.{ReplicaState}
 use Rattle.qu_replica.specs.Step.{replica_step}
 use Rattle.qu_client.specs.declared.state.ClientState.{ClientState}
 use Rattle.qu_client.specs.State.{Stepped}
-use Rattle.qu_counting.specs.declared.work.Work.{Work}
+use Rattle.qu_client.specs.declared.work.Work.{Work}
 use Rattle.qu_client.specs.State.{client_at_start}
 use Rattle.qu_client.specs.Steps.{client_step, client_invoke, client_tick}
 use Rattle.qu_client.specs.Sound.{last_number}

@@ -34,7 +34,7 @@ use Rattle.qu_runs.proofs.Small.{some_entry}
 use Rattle.qu_runs.proofs.Worlds.WorldGrowth.{world_after-none, world_after-next}
 use Rattle.qu_rounds.proofs.Asking.{AsksNothing, replica_asks}
 use Rattle.qu_rounds.proofs.Counted.{Each, Counts, counts_world}
-use Rattle.qu_counting.specs.declared.work.Work.{Work}
+use Rattle.qu_client.specs.declared.work.Work.{Work}
 use Rattle.qu_rounds.proofs.RoundSent.{OrNew, AreOneRound, AreUpTo, HasOwn, IsRoundStep, IsRoundIf, before_more, work_more, one_round_more, client_step-round, client_tick-round, client_invoke-round}
 
 -- ---- what holds of all clients and letters

@@ -21,8 +21,8 @@ use Rattle.qu_replica.specs.Step.{answer_frame, reply, learned, replica_on_frame
 use Rattle.qu_replica.proofs.States.Growth.{accept_all-me}
 use Rattle.qu_replica.proofs.States.Learning.{is_learned}
 use Rattle.qu_client.specs.declared.state.ClientState.{ClientState}
-use Rattle.qu_counting.specs.declared.work.Work.{Work}
-use Rattle.qu_counting.specs.declared.whom.Whom.{Whom}
+use Rattle.qu_client.specs.declared.work.Work.{Work}
+use Rattle.qu_client.specs.declared.whom.Whom.{Whom}
 use Rattle.qu_client.specs.Rounds.{request_of, requests}
 use Rattle.qu_client.proofs.Sent.{all_letters}
 use Rattle.qu_runs.proofs.Fits.ClientLetters.{step_sends, tick_sends, invoke_sends}

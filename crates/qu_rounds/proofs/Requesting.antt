@@ -12,12 +12,12 @@ use Rattle.qu_frames.specs.Body.{body_of}
 use Rattle.qu_rows.specs.State.{ReplicaState}
 use Rattle.qu_replica.specs.Step.{replica_step}
 use Rattle.qu_client.specs.State.{Stepped}
-use Rattle.qu_counting.specs.declared.work.Work.{Work}
+use Rattle.qu_client.specs.declared.work.Work.{Work}
 use Rattle.qu_client.specs.declared.state.ClientState.{ClientState}
 use Rattle.qu_objects.specs.declared.op.Op.TheVariants as op
-use Rattle.qu_counting.specs.declared.whom.Whom.{Whom}
-use Rattle.qu_counting.specs.declared.whom.Whom.TheVariants.{Others}
-use Rattle.qu_counting.specs.Whom.{whom_asked, first_object}
+use Rattle.qu_client.specs.declared.whom.Whom.{Whom}
+use Rattle.qu_client.specs.declared.whom.Whom.TheVariants.{Others}
+use Rattle.qu_client.specs.Whom.{whom_asked, first_object}
 use Rattle.qu_client.specs.Rounds.{request_of, asking_all, requests}
 use Rattle.qu_client.specs.Steps.{client_step, client_tick, client_invoke, next_number}
 use Rattle.qu_client.specs.Sound.{IsFor, IsSound, last_number}

@@ -11,15 +11,15 @@ use Rattle.qu_frames.specs.declared.frame.Letter.{Letter}
 use Rattle.qu_frames.specs.Formats.{frame_form}
 use Rattle.qu_client.specs.declared.state.ClientState.{ClientState}
 use Rattle.qu_client.specs.State.{Stepped}
-use Rattle.qu_counting.specs.declared.work.Work.{Work}
+use Rattle.qu_client.specs.declared.work.Work.{Work}
 use Rattle.qu_question.specs.declared.kept.Kept.{Kept}
-use Rattle.qu_counting.specs.declared.whom.Whom.{Whom}
-use Rattle.qu_counting.specs.declared.work.Phase.TheVariants.{Resting}
+use Rattle.qu_client.specs.declared.whom.Whom.{Whom}
+use Rattle.qu_client.specs.declared.work.Phase.TheVariants.{Resting}
 use Rattle.qu_question.specs.Kept.{unmarked}
-use Rattle.qu_counting.specs.Whom.{whom_asked}
+use Rattle.qu_client.specs.Whom.{whom_asked}
 use Rattle.qu_client.specs.Rounds.{request_of, requests}
 use Rattle.qu_question.specs.Marking.{marked_shown}
-use Rattle.qu_counting.specs.Work.{with_verdict}
+use Rattle.qu_client.specs.Work.{with_verdict}
 use Rattle.qu_client.specs.Steps.{rests, client_step, client_tick, client_invoke, next_number}
 use Rattle.qu_client.specs.Sound.{IsSound, last_number}
 use Rattle.qu_client.proofs.Cases.{IsNext, OfEach, OfQuiet, OfSending, sending, asked_last, of_sending, step_cases, tick_cases, invoke_cases}

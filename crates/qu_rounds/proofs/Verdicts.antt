@@ -17,7 +17,7 @@ use Rattle.qu_verdicts.specs.declared.verdict.Verdict.TheVariants as verdict
 use Rattle.qu_verdicts.specs.Verdict.{same_verdict, same_object, same_stamps}
 use Rattle.qu_objects.specs.Alike.{same_answer}
 use Rattle.qu_verdicts.specs.declared.verdict.Verdict.TheVariants.{Done, Told, Already, Mended, Refused}
-use Rattle.qu_counting.specs.Verdicts.{fitting}
+use Rattle.qu_client.specs.Verdicts.{fitting}
 use Rattle.qu_machine.proofs.Equalities.{decides_answer, object_is}
 
 -- ---- identical verdicts

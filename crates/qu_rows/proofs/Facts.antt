@@ -20,7 +20,7 @@ use Rattle.qu_plan.specs.Copying.{plan_of}
 use Rattle.qu_plan.specs.Evidence.{evidence_of, AreAlike}
 use Rattle.qu_plan.specs.Linking.{is_fact_of, link_in, link_by, linking}
 use Rattle.qu_plan.proofs.PlanEvidence.{evidence_enough}
-use Rattle.qu_remedies.specs.declared.course.Course.{Course}
+use Rattle.qu_kept.specs.declared.course.Course.{Course}
 use Rattle.qu_mends.specs.declared.mend.Mend.{Mend}
 use Rattle.qu_mends.specs.Mending.{decide_mend}
 use Rattle.qu_mends.specs.Remedy.{MendPart, course_by, course_of, mend_by}

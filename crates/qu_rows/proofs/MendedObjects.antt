@@ -16,13 +16,13 @@ use Rattle.qu_history.specs.Sets.{entries_of, histories}
 use Rattle.qu_class.specs.Class.{is_in_sets}
 use Rattle.qu_class.specs.Rows.{AllShown}
 use Rattle.qu_mends.specs.declared.accepted.Accepted.{Accepted}
-use Rattle.qu_remedies.specs.declared.remedy.Remedy.{Remedy}
-use Rattle.qu_remedies.specs.declared.remedy.Remedy.TheVariants.{Nothing, Shown, Fresh, Unshown, Unplanned, Outdated}
+use Rattle.qu_kept.specs.declared.remedy.Remedy.{Remedy}
+use Rattle.qu_kept.specs.declared.remedy.Remedy.TheVariants.{Nothing, Shown, Fresh, Unshown, Unplanned, Outdated}
 use Rattle.qu_mends.specs.declared.mend.Mend.{Mend}
 use Rattle.qu_mends.specs.declared.mending.Mending.{Mending}
 use Rattle.qu_mends.specs.declared.mending.Mending.TheVariants.{Mends, Holds, Refuses, Waits}
-use Rattle.qu_remedies.specs.declared.course.Course.{Course}
-use Rattle.qu_remedies.specs.Remedy.{remedies_by}
+use Rattle.qu_kept.specs.declared.course.Course.{Course}
+use Rattle.qu_kept.specs.Remedy.{remedies_by}
 use Rattle.qu_mends.specs.Remedy.{course_of}
 use Rattle.qu_mends.specs.Causes.{MakesCandidate, ArePartsOf, ArePartsAdded, HasCause}
 use Rattle.qu_mends.proofs.Members.{AreOthers, DoDiffer, AreOf, Lists, AllAddPlain, IsCourse, each_course, remedies_differ}

@@ -1,4 +1,5 @@
-pub mod State
+pub mod Allowed
+pub mod Named
 pub mod Rows
 pub mod SeenRows
-pub mod Allowed
+pub mod State

@@ -36,11 +36,11 @@ use Rattle.qu_verdicts.specs.declared.verdict.ClassCode.TheVariants.{InlineMetho
 use Rattle.qu_verdicts.specs.declared.verdict.Refusal.{Refusal}
 use Rattle.qu_verdicts.specs.declared.verdict.Refusal.TheVariants as refusal
 use Rattle.qu_verdicts.specs.declared.verdict.Verdict.TheVariants as verdict
-use Rattle.qu_remedies.specs.declared.remedy.Remedy.{Remedy}
+use Rattle.qu_kept.specs.declared.remedy.Remedy.{Remedy}
 use Rattle.qu_mends.specs.declared.mend.Mend.{Mend}
 use Rattle.qu_mends.specs.declared.mending.Mending.{Mending}
 use Rattle.qu_mends.specs.declared.mending.Mending.TheVariants as mending
-use Rattle.qu_remedies.specs.Remedy.{wanted_by}
+use Rattle.qu_kept.specs.Remedy.{wanted_by}
 use Rattle.qu_mends.specs.Remedy.{MendPart, mend_of}
 use Rattle.qu_mends.specs.Mending.{decide_mend}
 use Rattle.qu_mends.specs.declared.seen.Seen.{Seen}

@@ -10,7 +10,7 @@ use Rattle.qu_history.specs.History.{ObjectHistory, is_history, latest}
 use Rattle.qu_objects.specs.declared.kind.KindName.{KindName}
 use Rattle.qu_versions.specs.declared.stored.Stored.{Stored}
 use Rattle.qu_mends.specs.Table.{candidates_in}
-use Rattle.qu_lacking.specs.Waiting.{Waiting, Running}
+use Rattle.qu_waiting.specs.Waiting.{Waiting, Running}
 
 pub record ReplicaState : Type 0 where
   pub me : ReplicaId

@@ -2,9 +2,8 @@
 
 use qu_base::List;
 use qu_cli::qu_alone;
-use qu_io::{Failed, MemSink, MemSource, Sink, Source};
+use qu_io::{Failed, MemSink, MemSource, PIECE, Sink, Source};
 use qu_testing::holds;
-use qu_transfer::PIECE;
 use std::alloc::Global;
 use std::test::Fail;
 

@@ -5,8 +5,8 @@ use Rattle.qu_base.specs.Bounds.{replicas}
 use Rattle.qu_base.specs.declared.party.ClientId.{ClientId}
 use Rattle.qu_base.specs.declared.party.Party.TheVariants as party
 use Rattle.qu_base.specs.declared.party.ReplicaId.{ReplicaId}
-use Rattle.qu_flow.specs.Outage.{OutageState, no_outage, with_marks}
-use Rattle.qu_flow.specs.Waiting.{waiting_from}
+use Rattle.qu_script.specs.Outage.{OutageState, no_outage, with_marks}
+use Rattle.qu_script.specs.Waiting.{waiting_from}
 use Rattle.qu_trace.specs.declared.event.Event.{Event}
 use Rattle.qu_trace.specs.declared.event.Event.TheVariants as event
 use Rattle.qu_trace.specs.declared.trace.Setup.{Setup}

@@ -1,4 +1,6 @@
-pub mod Letters
-pub mod Fake
 pub mod Events
+pub mod Fake
+pub mod Letters
+pub mod Outage
 pub mod Player
+pub mod Waiting

@@ -9,8 +9,7 @@ ghost use Rattle.qu_script.specs.Fake.{last_request, last_reply, thin, shown_now
 use super::letters::last_sent;
 use qu_adversary::{in_name_of, reply_of, sealed_for};
 use qu_base::{Bounds, ClientId, Digest, List, NoMemory, ObjectId, Party, ReadFail, ReplicaId};
-use qu_decoding::decode;
-use qu_frames::{Frame, Refusal, Verdict};
+use qu_frames::{Frame, Refusal, Verdict, decode};
 use qu_history::{AddFail, History, Sealed, Sets};
 use qu_language::How;
 use qu_seal::KeyRing;

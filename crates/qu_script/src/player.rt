@@ -4,8 +4,9 @@ ghost use Rattle.qu_script.specs.Events.{opening_play, event_made, deliveries_ma
 ghost use Rattle.qu_script.specs.Player.{world_fail_at};
 
 use super::fake::fake;
+use crate::outage::Outage;
+use crate::waiting::{Begin, find_waiting, next_letter};
 use qu_base::{ClientId, List, NoMemory, Party, ReplicaId};
-use qu_flow::{Begin, Outage, find_waiting, next_letter};
 use qu_language::Line;
 use qu_script_words::{Bad, BadKind, ScriptFail};
 use qu_trace::{Event, Setup, Trace};
@@ -24,7 +25,7 @@ pub struct Player {
 
 impl Model for Player {
     ghost use Rattle.qu_script.specs.Events.{Playing, playing_of};
-    ghost use Rattle.qu_flow.specs.Waiting.{MayBeginAt};
+    ghost use Rattle.qu_script.specs.Waiting.{MayBeginAt};
 
     ghost Value = { Playing };
 

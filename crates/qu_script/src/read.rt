@@ -4,8 +4,7 @@ ghost use Rattle.qu_language.specs.Called.{calls_said, MayAllCall};
 ghost use Rattle.qu_language.specs.Script.{script_of};
 ghost use Rattle.qu_world.specs.Run.{IsSetup};
 
-use qu_language::Script;
-use qu_script_text::read_script as read_text;
+use qu_language::{Script, read_script as read_text};
 use qu_script_words::ScriptFail;
 use std::alloc::Global;
 

@@ -18,7 +18,7 @@ use Rattle.qu_rows.specs.State.{ReplicaState}
 use Rattle.qu_fitting.specs.Holding.{with_candidate, accept, accept_all, replica_at_start}
 use Rattle.qu_rows.specs.Rows.{asked_at, decision_on}
 use Rattle.qu_replica.specs.Step.{with_waiting, carried_out, learned, handled, if_handled, replica_on_frame, replica_on_received, replica_step}
-use Rattle.qu_lacking.specs.Waiting.{TakenRequest}
+use Rattle.qu_waiting.specs.Waiting.{TakenRequest}
 use Rattle.qu_rows.proofs.Own.{IsOwn, own_history}
 use Rattle.qu_replica.proofs.States.Learning.{Learned, is_learned}
 use Rattle.qu_fitting.proofs.OwnHistories.{opening-histories}

@@ -24,23 +24,23 @@ use Rattle.qu_mends.specs.declared.accepted.Accepted.{Accepted}
 use Rattle.qu_rows.specs.declared.decision.Decision.{Decision}
 use Rattle.qu_rows.specs.declared.decision.Decision.TheVariants.{Answers}
 use Rattle.qu_rows.specs.State.{ReplicaState}
-use Rattle.qu_lacking.specs.Waiting.{TakenRequest}
+use Rattle.qu_waiting.specs.Waiting.{TakenRequest}
 use Rattle.qu_fitting.specs.Holding.{accept_all}
 use Rattle.qu_rows.specs.Rows.{asked_at, decision_on}
 use Rattle.qu_replica.specs.Step.{shown, answer_frame, reply, carried_out, learned, handled, if_handled, replica_step}
 use Rattle.qu_replica.specs.Step as replica
 use Rattle.qu_question.specs.declared.kept.Kept.{Kept}
 use Rattle.qu_question.specs.declared.kept.Mark.TheVariants.{Unshown}
-use Rattle.qu_counting.specs.declared.work.Work.{Work}
+use Rattle.qu_client.specs.declared.work.Work.{Work}
 use Rattle.qu_client.specs.declared.state.ClientState.{ClientState}
 use Rattle.qu_client.specs.State.{Stepped}
 use Rattle.qu_client.specs.State.{client_at_start}
 use Rattle.qu_question.specs.Kept.{is_older, same_source, keep, keep_all}
-use Rattle.qu_counting.specs.declared.whom.Whom.{Whom}
-use Rattle.qu_counting.specs.declared.whom.Whom.TheVariants.{Others}
+use Rattle.qu_client.specs.declared.whom.Whom.{Whom}
+use Rattle.qu_client.specs.declared.whom.Whom.TheVariants.{Others}
 use Rattle.qu_question.specs.Kept.{unmarked}
 use Rattle.qu_question.specs.Named.{operation_objects}
-use Rattle.qu_counting.specs.Whom.{whom_asked, first_object}
+use Rattle.qu_client.specs.Whom.{whom_asked, first_object}
 use Rattle.qu_client.specs.Rounds.{request_of, asking_all, begins, requests}
 use Rattle.qu_question.specs.Marking.{marked_shown}
 use Rattle.qu_question.proofs.Trimmed.{each_of_sets}

@@ -1,2 +1,4 @@
+pub mod EqualBytes
 pub mod SlotLaws
 pub mod Taken
+pub mod Votes

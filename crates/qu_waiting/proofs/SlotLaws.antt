@@ -5,7 +5,7 @@ use Rattle.std.proofs.lemmas.Bool.{and_parts, and_from, eq-eqb, eqb-true, cases_
 use Rattle.std.proofs.lemmas.Option.{none-some, same_Some}
 use Rattle.qu_base.specs.declared.party.ObjectId.{ObjectId}
 use Rattle.qu_stamp.specs.declared.stamp.Stamp.{Stamp}
-use Rattle.qu_lacking.specs.Waiting.{Waiting}
+use Rattle.qu_waiting.specs.Waiting.{Waiting}
 use Rattle.qu_waiting.specs.declared.next.Turn.{Turn}
 use Rattle.qu_waiting.specs.Slots.{are_slots, lacks, first_waiting, next_slot, with_turn, AreSlots, TurnFits}
 

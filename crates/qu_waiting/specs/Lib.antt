@@ -1,1 +1,5 @@
+pub mod Fetching
+pub mod RefusalNumber
 pub mod Slots
+pub mod Tally
+pub mod Waiting

@@ -6,9 +6,9 @@ use Rattle.qu_base.specs.declared.party.ObjectId.{ObjectId}
 use Rattle.qu_base.specs.declared.party.ReplicaId.{ReplicaId}
 use Rattle.qu_stamp.specs.declared.stamp.Stamp.{Stamp}
 use Rattle.qu_versions.specs.Versions.{is_same_key}
-use Rattle.qu_vote.specs.Tally.{has_voted}
-use Rattle.qu_sync.specs.Fetching.{completes, with_answer}
-use Rattle.qu_lacking.specs.Waiting.{Waiting, Running}
+use Rattle.qu_waiting.specs.Tally.{has_voted}
+use Rattle.qu_waiting.specs.Fetching.{completes, with_answer}
+use Rattle.qu_waiting.specs.Waiting.{Waiting, Running}
 use Rattle.qu_waiting.specs.declared.counting.Counting.{Counting}
 use Rattle.qu_waiting.specs.declared.counting.Counting.TheVariants.{NotFetched, OtherKind, Twice, Counted, Found}
 use Rattle.qu_waiting.specs.declared.next.Next.{Next}

@@ -3,10 +3,10 @@ ghost use Rattle.std.specs.Option.{option_copied};
 ghost use Rattle.qu_base.specs.declared.limits.TheConstants.{REPLICA_IDS};
 ghost use Rattle.qu_waiting.specs.Slots.{is_running, fetch_under, with_fetch, with_fetches, with_vote, with_votes, without_fetch};
 
+use crate::fetching::Fetching;
 use crate::running::Running;
 use qu_base::{List, NoMemory, ObjectId, ReplicaId};
 use qu_stamp::Stamp;
-use qu_sync::Fetching;
 use std::alloc::Global;
 
 /// Whether it is of the version under this key.

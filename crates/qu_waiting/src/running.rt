@@ -1,8 +1,8 @@
 ghost use Rattle.std.specs.Prelude.{◌≡◌, IfOk};
 
+use crate::fetching::Fetching;
 use qu_base::{NoMemory, ObjectId};
 use qu_stamp::Stamp;
-use qu_sync::Fetching;
 use std::marker::Model;
 
 /// A version that other replicas were asked for, and what they answered.
@@ -24,7 +24,7 @@ impl Drop for Running {
 }
 
 impl Model for Running {
-    ghost use Rattle.qu_lacking.specs.Waiting.{Running as Runs};
+    ghost use Rattle.qu_waiting.specs.Waiting.{Running as Runs};
 
     ghost Value = { Runs };
 

@@ -1,11 +1,10 @@
 ghost use Rattle.std.specs.Prelude.{◌≡◌, Some, IfOk};
 ghost use Rattle.qu_frames.specs.Reading.{own_mac, request_with};
 ghost use Rattle.qu_frames.specs.Signing.{brought};
-ghost use Rattle.qu_lacking.specs.Waiting.{taken_by};
+ghost use Rattle.qu_waiting.specs.Waiting.{taken_by};
 
 use qu_base::{List, NoMemory, ObjectId, Party};
-use qu_decoding::{read_request, receive};
-use qu_frames::{Frame, Reading};
+use qu_frames::{Frame, Reading, read_request, receive};
 use qu_seal::KeyRing;
 use qu_stamp::Stamp;
 use std::alloc::Global;
@@ -32,7 +31,7 @@ impl Drop for Waiting {
 }
 
 impl Model for Waiting {
-    ghost use Rattle.qu_lacking.specs.Waiting.{Waiting as Waits, taken_by};
+    ghost use Rattle.qu_waiting.specs.Waiting.{Waiting as Waits, taken_by};
 
     ghost Value = { Waits };
 

@@ -5,7 +5,7 @@ use Rattle.std.proofs.lemmas.Option.{slice_get-get_or}
 use Rattle.qu_base.specs.declared.party.ClientId.{ClientId}
 use Rattle.qu_client.specs.declared.state.ClientState.{ClientState}
 use Rattle.qu_client.specs.State.{Stepped}
-use Rattle.qu_counting.specs.declared.work.Work.{Work}
+use Rattle.qu_client.specs.declared.work.Work.{Work}
 use Rattle.qu_world.specs.declared.parties.Made.{Made}
 use Rattle.qu_world.specs.State.{numbered, with_numbered}
 use Rattle.qu_world.specs.Step.{ended_as}

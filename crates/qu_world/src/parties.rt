@@ -8,8 +8,7 @@ ghost use Rattle.qu_world.specs.Parties.{ReplicaMoves, ClientMoves, IsIdle};
 
 use qu_base::{ClientId, List, NoMemory, ReplicaId};
 use qu_client::{Client, InvokeFail};
-use qu_decoding::read_request;
-use qu_frames::{Letter, Reading};
+use qu_frames::{Letter, Reading, read_request};
 use qu_objects::{Op, Outcome};
 use qu_replica::Replica;
 use std::alloc::Global;

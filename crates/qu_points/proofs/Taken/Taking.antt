@@ -41,8 +41,8 @@ use Rattle.qu_points.specs.Points.{NamedAct, act_mark, handled_acts, is_named_ac
 use Rattle.qu_marks.proofs.DecidedWorlds.{decided_is_accepted}
 use Rattle.qu_marks.proofs.Settling.{IsTrackedAt, stands_in}
 use Rattle.qu_marks.proofs.Places.{position_none}
-use Rattle.qu_first_marks.specs.FirstMark.{is_of_update, first_mark}
-use Rattle.qu_first_marks.proofs.Firsts.{HasMark, first_mark_found, first_mark_least}
+use Rattle.qu_marks.specs.FirstMark.{is_of_update, first_mark}
+use Rattle.qu_marks.proofs.Firsts.{HasMark, first_mark_found, first_mark_least}
 
 -- ---- updates
 

@@ -31,7 +31,7 @@ use Rattle.qu_rows.specs.State.{ReplicaState}
 use Rattle.qu_fitting.specs.Holding.{accept_all}
 use Rattle.qu_waiting.specs.Slots.{first_waiting, without_request, lacks}
 use Rattle.qu_rows.specs.Rows.{Asked, asked_at, unknown_in, decision_on}
-use Rattle.qu_handling.specs.Named.{named}
+use Rattle.qu_rows.specs.Named.{named}
 use Rattle.qu_replica.specs.Step.{shown, answer_frame, carried_out, replica_on_frame, replica_on_received, replica_step, version_letters, with_found, with_told, learned, handled, fetches_from, fetches_of, decided, if_handled, is_found}
 use Rattle.qu_rows.specs.Allowed.{MayDecide}
 use Rattle.qu_fitting.specs.Fits.{StateFits, StepFits, VersionFits, LetterFits, SlotFits, VersionsFit}
@@ -49,7 +49,7 @@ use Rattle.qu_stamp.specs.declared.stamp.Stamp.{Stamp}
 use Rattle.qu_objects.specs.declared.state.ObjState.{ObjState}
 use Rattle.qu_versions.specs.Versions.{version_at, has_version}
 use Rattle.qu_seal.specs.Keys.{Ring}
-use Rattle.qu_lacking.specs.Waiting.{Waiting, TakenRequest, Running, request_frame_of}
+use Rattle.qu_waiting.specs.Waiting.{Waiting, TakenRequest, Running, request_frame_of}
 use Rattle.qu_base.specs.declared.party.Party.{Party}
 use Rattle.qu_base.specs.Bounds.{replicas}
 use Rattle.qu_objects.specs.States.{state_form}

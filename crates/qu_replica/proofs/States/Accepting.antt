@@ -6,7 +6,7 @@ use Rattle.qu_history.specs.Culling.{left_out}
 use Rattle.qu_mends.specs.declared.accepted.Accepted.{Accepted}
 use Rattle.qu_rows.specs.State.{ReplicaState}
 use Rattle.qu_fitting.specs.Holding.{accept_all}
-use Rattle.qu_handling.specs.Named.{named}
+use Rattle.qu_rows.specs.Named.{named}
 use Rattle.qu_replica.specs.Growth.{Grows}
 use Rattle.qu_replica.proofs.States.Growth.{accept_all-grows, accept_all-me, accept_all-keys, accept_all-bounds}
 

@@ -24,13 +24,13 @@ use Rattle.qu_rows.specs.declared.decision.Decision.{Decision}
 use Rattle.qu_rows.specs.declared.decision.Decision.TheVariants.{Answers, Waits}
 use Rattle.qu_rows.specs.Rows.{Asked, asked_of, asked_at, fresh_group, fresh_act, fresh_stamp, fresh_stamps, is_held, row_unknown, row_thin, row_retry, row_current, row_method, row_version, row_kept, row_time, row_full, row_done, row_told, row_few, row_evidence, accepted_by, base_versions, objects_of, decide_act, decide_ask, decide_repair, decision_on}
 use Rattle.qu_mends.specs.Table.{first_given}
-use Rattle.qu_lacking.specs.Waiting.{TakenRequest}
+use Rattle.qu_waiting.specs.Waiting.{TakenRequest}
 use Rattle.qu_rows.specs.State.{ReplicaState, without_waiting, one_more}
 use Rattle.qu_mends.specs.Table.{candidates_in}
 use Rattle.qu_rows.specs.Allowed.{MayAccept, MayAcceptAll, MayDecide}
 use Rattle.qu_fitting.specs.Holding.{with_candidate, accept, accept_all}
 use Rattle.qu_replica.specs.Growth.{HoldsAlike}
-use Rattle.qu_handling.specs.Named.{named}
+use Rattle.qu_rows.specs.Named.{named}
 use Rattle.qu_replica.specs.Step.{shown, reply, with_found, carried_out, decided}
 
 -- ---- decisions

@@ -12,7 +12,7 @@ use Rattle.qu_versions.specs.declared.limits.TheConstants.{MOST_VERSIONS}
 use Rattle.qu_versions.specs.declared.stored.Stored.{Stored}
 use Rattle.qu_versions.specs.Versions.{has_version, with_version}
 use Rattle.qu_mends.specs.declared.accepted.Accepted.{Accepted}
-use Rattle.qu_lacking.specs.Waiting.{Waiting, Running}
+use Rattle.qu_waiting.specs.Waiting.{Waiting, Running}
 use Rattle.qu_rows.specs.State.{ReplicaState, AreHistories, are_own}
 use Rattle.qu_rows.specs.Allowed.{MayAcceptAll}
 use Rattle.qu_replica.specs.declared.planned.Gain.{Gain}

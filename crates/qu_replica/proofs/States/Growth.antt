@@ -17,7 +17,7 @@ use Rattle.qu_rows.specs.State.{ReplicaState, own_candidates}
 use Rattle.qu_mends.specs.Table.{candidates_in}
 use Rattle.qu_fitting.specs.Holding.{with_candidate, stored_if, accept, accept_all}
 use Rattle.qu_rows.specs.Rows.{asked_at, decision_on}
-use Rattle.qu_lacking.specs.Waiting.{TakenRequest}
+use Rattle.qu_waiting.specs.Waiting.{TakenRequest}
 use Rattle.qu_replica.proofs.States.Learning.{Learned, is_learned}
 use Rattle.qu_replica.specs.Step.{with_waiting, carried_out, learned, handled, if_handled, replica_on_frame, replica_on_received, replica_step}
 use Rattle.qu_replica.specs.Growth.{Grows}

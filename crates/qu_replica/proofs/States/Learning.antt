@@ -9,9 +9,9 @@ use Rattle.qu_frames.specs.declared.frame.Frame.{Frame}
 use Rattle.qu_frames.specs.declared.frame.Frame.TheVariants as frame
 use Rattle.qu_frames.specs.declared.frame.Letter.{Letter}
 use Rattle.qu_objects.specs.States.{state_form}
-use Rattle.qu_sync.specs.Fetching.{completes, with_answer}
+use Rattle.qu_waiting.specs.Fetching.{completes, with_answer}
 use Rattle.qu_versions.specs.Versions.{has_version}
-use Rattle.qu_lacking.specs.Waiting.{Waiting, Running}
+use Rattle.qu_waiting.specs.Waiting.{Waiting, Running}
 use Rattle.qu_rows.specs.State.{ReplicaState}
 use Rattle.qu_waiting.specs.Slots.{is_running, fetch_under, with_votes, first_waiting}
 use Rattle.qu_replica.specs.Step.{has_kind, is_found, with_found, with_told, learned, if_handled, completes_fetch, replica_on_frame}

@@ -12,8 +12,7 @@ ghost use Rattle.qu_replica.specs.Step.{version_letters, replica_step};
 use super::{Replica, are_bytes};
 use crate::planned::{Gain, Planned};
 use qu_base::{List, NoMemory, ObjectId, Party, ReplicaId};
-use qu_decoding::receive;
-use qu_frames::{Frame, Letter, blank_mac};
+use qu_frames::{Frame, Letter, blank_mac, receive};
 use qu_stamp::Stamp;
 
 impl Replica {

@@ -7,7 +7,7 @@ ghost use Rattle.qu_history.specs.Sealing.{sealed_by};
 ghost use Rattle.qu_fitting.specs.Holding.{accept, accept_all, accepted_of, stored_all};
 ghost use Rattle.qu_fitting.specs.Holding.{with_histories};
 ghost use Rattle.qu_replica.specs.State.{with_gain};
-ghost use Rattle.qu_handling.specs.Named.{named};
+ghost use Rattle.qu_rows.specs.Named.{named};
 ghost use Rattle.qu_replica.specs.Step.{shown, reply};
 ghost use Rattle.qu_versions.specs.declared.limits.TheConstants.{MOST_VERSIONS};
 ghost use Rattle.qu_rows.specs.Allowed.{MayAccept, MayAcceptAll};

@@ -16,10 +16,9 @@ use qu_base::{List, NoMemory, ObjectId};
 use qu_class::Class;
 use qu_frames::{ClassCode, Refusal, Verdict};
 use qu_history::Sets;
-use qu_kept::{Standing, standing_of};
+use qu_kept::{Standing, standing_of, tell_all};
 use qu_mends::{Seen, has_no_room};
 use qu_objects::{Act, ObjState, Query};
-use qu_performing::tell_all;
 use qu_stamp::LAST_TIME;
 use std::alloc::Global;
 

@@ -7,9 +7,9 @@ use crate::asked::Asked;
 use crate::decision::Decision;
 use qu_base::{List, NoMemory, ObjectId};
 use qu_frames::Verdict;
+use qu_kept::{Performed, perform};
 use qu_mends::{Accepted, Seen};
 use qu_objects::{Act, ObjState};
-use qu_performing::{Performed, perform};
 use qu_stamp::{Candidate, Group, Stamp};
 use std::alloc::Global;
 

@@ -15,10 +15,10 @@ use qu_base::{Bounds, List, NoMemory, ObjectId};
 use qu_class::{Class, classify};
 use qu_frames::{Refusal, Verdict};
 use qu_history::Sets;
+use qu_kept::Remedy;
 use qu_mends::{Accepted, Mend, Mending, Part};
 use qu_objects::ObjState;
 use qu_plan::{Fact, evidence};
-use qu_remedies::Remedy;
 use qu_stamp::Stamp;
 use std::alloc::Global;
 

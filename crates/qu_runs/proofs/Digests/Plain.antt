@@ -19,7 +19,7 @@ use Rattle.qu_rows.specs.State.{ReplicaState}
 use Rattle.qu_replica.specs.Step as replica
 use Rattle.qu_client.specs.declared.state.ClientState.{ClientState}
 use Rattle.qu_client.specs.State.{Stepped}
-use Rattle.qu_counting.specs.declared.work.Work.{Work}
+use Rattle.qu_client.specs.declared.work.Work.{Work}
 use Rattle.qu_client.specs.Steps as client
 use Rattle.qu_trace.specs.declared.event.Event.{Event}
 use Rattle.qu_trace.specs.declared.event.Event.TheVariants.{Invoke, Deliver, Tick, Inject}

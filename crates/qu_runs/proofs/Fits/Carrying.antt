@@ -33,12 +33,12 @@ use Rattle.qu_rows.specs.State.{ReplicaState}
 use Rattle.qu_fitting.specs.Holding.{accept_all}
 use Rattle.qu_replica.specs.Step.{answer_frame, handled, learned}
 use Rattle.qu_client.specs.declared.state.ClientState.{ClientState}
-use Rattle.qu_counting.specs.declared.work.Work.{Work}
+use Rattle.qu_client.specs.declared.work.Work.{Work}
 use Rattle.qu_client.specs.Rounds as rounds
 use Rattle.qu_world.specs.State.{WorldState, numbered, with_numbered, letter_of}
 use Rattle.qu_claims.specs.Carried.{Carries, Brings, Asks, Tells}
 use Rattle.qu_world.proofs.Each.{set_here}
-use Rattle.qu_lacking.specs.Waiting.{TakenRequest}
+use Rattle.qu_waiting.specs.Waiting.{TakenRequest}
 
 -- ---- a letter carries what was sent
 

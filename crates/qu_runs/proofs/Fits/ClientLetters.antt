@@ -3,10 +3,10 @@ use Rattle.std.proofs.Common.{ℕ, List, []}
 use Rattle.qu_objects.specs.declared.op.Op.{Op}
 use Rattle.qu_frames.specs.declared.frame.Letter.{Letter}
 use Rattle.qu_client.specs.declared.state.ClientState.{ClientState}
-use Rattle.qu_counting.specs.declared.whom.Whom.{Whom}
-use Rattle.qu_counting.specs.declared.whom.Whom.TheVariants.{Others}
-use Rattle.qu_counting.specs.declared.work.Work.{Work}
-use Rattle.qu_counting.specs.Whom.{whom_asked, first_object}
+use Rattle.qu_client.specs.declared.whom.Whom.{Whom}
+use Rattle.qu_client.specs.declared.whom.Whom.TheVariants.{Others}
+use Rattle.qu_client.specs.declared.work.Work.{Work}
+use Rattle.qu_client.specs.Whom.{whom_asked, first_object}
 use Rattle.qu_client.specs.Rounds.{requests, asking_all}
 use Rattle.qu_client.specs.Steps.{client_step, client_tick, client_invoke}
 use Rattle.qu_client.proofs.Cases.{OfEach, step_cases, tick_cases, invoke_cases}

@@ -19,19 +19,19 @@ use Rattle.qu_verdicts.specs.declared.verdict.Verdict.{Verdict}
 use Rattle.qu_frames.specs.Formats.{reply_frame, kind_form, frame_form}
 use Rattle.qu_frames.specs.Decoding.{decoded}
 use Rattle.qu_frames.specs.declared.frame.Body.{Body}
-use Rattle.qu_counting.specs.declared.whom.Whom.TheVariants.{Others}
-use Rattle.qu_counting.specs.declared.whom.Whom.{Whom}
+use Rattle.qu_client.specs.declared.whom.Whom.TheVariants.{Others}
+use Rattle.qu_client.specs.declared.whom.Whom.{Whom}
 use Rattle.qu_question.specs.declared.kept.Kept.{Kept}
 use Rattle.qu_question.specs.declared.kept.Mark.TheVariants.{Unshown}
 use Rattle.qu_client.specs.declared.state.ClientState.{ClientState}
 use Rattle.qu_client.specs.State.{Stepped}
-use Rattle.qu_counting.specs.declared.work.Work.{Work}
+use Rattle.qu_client.specs.declared.work.Work.{Work}
 use Rattle.qu_client.specs.State.{client_at_start}
 use Rattle.qu_question.specs.Kept.{is_older, same_source, keep, keep_all, unmarked}
-use Rattle.qu_counting.specs.Work.{with_verdict}
+use Rattle.qu_client.specs.Work.{with_verdict}
 use Rattle.qu_client.specs.Steps.{client_step, client_invoke, next_number, client_tick}
 use Rattle.qu_client.specs.Sound.{NumbersWithin, IsSoundWork, IsSound}
-use Rattle.qu_counting.specs.Whom.{whom_asked, first_object}
+use Rattle.qu_client.specs.Whom.{whom_asked, first_object}
 use Rattle.qu_client.specs.Rounds.{request_of, requests, asking_all}
 use Rattle.qu_question.specs.Marking.{marked_shown}
 use Rattle.qu_client.proofs.Sent.{each_letter}

@@ -32,7 +32,7 @@ use Rattle.qu_frames.specs.declared.frame.Body.TheVariants as body
 use Rattle.qu_frames.specs.Formats.{body_form, request_frame, kind_form, frame_form}
 use Rattle.qu_frames.specs.Formats as forms
 use Rattle.qu_question.specs.declared.kept.Kept.{Kept}
-use Rattle.qu_counting.specs.declared.work.Work.{Work}
+use Rattle.qu_client.specs.declared.work.Work.{Work}
 use Rattle.qu_question.specs.Kept.{is_left_out, kept_of}
 use Rattle.qu_objects.specs.Parts.{are_objects_from}
 use Rattle.qu_question.specs.Named.{operation_objects, are_objects}

@@ -21,7 +21,7 @@ use Rattle.qu_rows.specs.declared.decision.Decision.{Decision}
 use Rattle.qu_fitting.specs.Fits.{StateFits, LetterFits, StepFits}
 use Rattle.qu_rows.specs.State.{ReplicaState}
 use Rattle.qu_fitting.specs.Holding.{accept_all, replica_at_start}
-use Rattle.qu_lacking.specs.Waiting.{request_frame_of}
+use Rattle.qu_waiting.specs.Waiting.{request_frame_of}
 use Rattle.qu_replica.specs.Step.{carried_out, learned, replica_step}
 use Rattle.qu_fitting.proofs.FitDecisions.{DecisionFits}
 use Rattle.qu_fitting.proofs.FitState.{opening-fits}

@@ -9,9 +9,9 @@ use Rattle.qu_trace.specs.Decoded.{frame_sent}
 use Rattle.qu_trace.proofs.DecodedLaws.{frame_of_entry}
 use Rattle.qu_claims.specs.Digested.{texts_at}
 use Rattle.qu_audit.specs.declared.auditing.Past.{Past}
-use Rattle.qu_premise.specs.Digests.{look, Notes, first_clash}
-use Rattle.qu_premise.specs.Forging.{ShownLetter, letter_shown, shown_in_all, is_forged}
-use Rattle.qu_premise.proofs.Frames.{frame_before_entry}
+use Rattle.qu_audit.specs.Digests.{look, Notes, first_clash}
+use Rattle.qu_audit.specs.Forging.{ShownLetter, letter_shown, shown_in_all, is_forged}
+use Rattle.qu_audit.proofs.Frames.{frame_before_entry}
 use Rattle.qu_audit.proofs.Steps.{forged_at, unforged_at, first_forged, past_more, collision_here}
 use Rattle.qu_audit.proofs.auditing.follow.Goals as goal
 

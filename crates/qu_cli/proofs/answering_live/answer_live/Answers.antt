@@ -1,6 +1,6 @@
 -- What a command has to write is told, and so is how its call ends.
 use Rattle.std.proofs.Common.{refl, inl, inr}
-use Rattle.qu_words.specs.declared.command.Command.TheVariants.{Live}
+use Rattle.qu_notation.specs.declared.command.Command.TheVariants.{Live}
 use Rattle.qu_cli.proofs.ToldFacts.{told_ends, fault_told, calm_told, nothing_told}
 use Rattle.qu_cli.proofs.answering_live.answer_live.Goals as goal
 

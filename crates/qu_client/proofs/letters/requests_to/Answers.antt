@@ -1,6 +1,6 @@
 use Rattle.std.proofs.Common.{◌≡◌, ℕ, true, false, List, arith, ap, sym, ◌∙◌, ◌++◌}
 use Rattle.qu_frames.specs.Signing.{before_mac, text_digest}
-use Rattle.qu_counting.specs.Whom.{is_asked}
+use Rattle.qu_client.specs.Whom.{is_asked}
 use Rattle.qu_client.proofs.Requesting.{requests_from_more, requests_from_less, requests_from_end}
 use Rattle.qu_client.proofs.letters.requests_to.Goals as goal
 use Rattle.qu_client.proofs.letters.requests_to.Goals.{then-includes+in_ok-text-2+in_ok-push, else-includes}

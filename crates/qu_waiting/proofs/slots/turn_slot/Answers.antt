@@ -2,7 +2,7 @@
 use Rattle.std.proofs.Common.{rules, ◌≡◌, ℕ, ◌<◌, length, set, Option, None, Some, sym, ap, ◌∙◌}
 use Rattle.std.specs.Prelude.{slice_get, unwrap_or}
 use Rattle.std.proofs.lemmas.Option.{slice_get-get_or}
-use Rattle.qu_lacking.specs.Waiting.{Waiting}
+use Rattle.qu_waiting.specs.Waiting.{Waiting}
 use Rattle.qu_waiting.specs.declared.next.Next.{Next}
 use Rattle.qu_waiting.specs.Slots.{next_slot}
 use Rattle.qu_waiting.proofs.SlotLaws.{set_over}

@@ -1,7 +1,7 @@
 -- The client with this number took the text.
 use Rattle.std.proofs.Common.{◌∙◌, ap, arith}
 use Rattle.std.specs.Prelude.{option_map}
-use Rattle.qu_counting.specs.declared.work.Work.{Work}
+use Rattle.qu_client.specs.declared.work.Work.{Work}
 use Rattle.qu_client.specs.Steps.{client_step}
 use Rattle.qu_world.specs.Step.{ended_as}
 use Rattle.qu_world.proofs.Moving.{client_moved}

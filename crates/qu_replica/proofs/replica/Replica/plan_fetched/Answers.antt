@@ -5,8 +5,8 @@ use Rattle.std.proofs.lemmas.Result.{IfOk-weaker}
 use Rattle.qu_frames.specs.declared.frame.Frame.TheVariants as frame
 use Rattle.qu_frames.specs.declared.frame.Letter.{Letter}
 use Rattle.qu_objects.specs.States.{state_form}
-use Rattle.qu_sync.specs.Fetching.{completes}
-use Rattle.qu_lacking.specs.Waiting.{Waiting, Running}
+use Rattle.qu_waiting.specs.Fetching.{completes}
+use Rattle.qu_waiting.specs.Waiting.{Waiting, Running}
 use Rattle.qu_rows.specs.State.{ReplicaState}
 use Rattle.qu_replica.specs.declared.planned.Planned.{Planned}
 use Rattle.qu_replica.specs.State.{with_gain}

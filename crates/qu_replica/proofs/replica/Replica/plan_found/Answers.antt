@@ -1,7 +1,7 @@
 -- Where no request is woken, what is gained is the version that is found.
 use Rattle.std.proofs.Common.{rules, ◌≡◌, Bool, Option, None, Some, List, sym, ap, ◌∙◌}
 use Rattle.std.specs.Option.{option_map}
-use Rattle.qu_lacking.specs.Waiting.{Waiting, TakenRequest, Running}
+use Rattle.qu_waiting.specs.Waiting.{Waiting, TakenRequest, Running}
 use Rattle.qu_versions.specs.declared.stored.Stored.{Stored}
 use Rattle.qu_versions.specs.Versions.{has_version}
 use Rattle.qu_waiting.specs.Slots.{first_waiting, without_fetch}

@@ -6,7 +6,7 @@ use Rattle.qu_base.specs.declared.party.Party.TheVariants as party
 use Rattle.qu_frames.specs.Reading.{own_mac, request_with}
 use Rattle.qu_frames.specs.Signing.{brought}
 use Rattle.qu_frames.specs.declared.frame.Letter.{Letter}
-use Rattle.qu_lacking.specs.Waiting.{TakenRequest, taken_by}
+use Rattle.qu_waiting.specs.Waiting.{TakenRequest, taken_by}
 use Rattle.qu_rows.specs.State.{ReplicaState}
 use Rattle.qu_rows.specs.declared.decision.Decision.TheVariants.{Answers, Waits}
 use Rattle.qu_mends.specs.declared.accepted.Accepted.{Accepted}

@@ -5,7 +5,7 @@ use Rattle.std.specs.Option.{option_copied}
 use Rattle.std.proofs.lemmas.Result.{IfOk-weaker}
 use Rattle.qu_base.specs.declared.party.ClientId.{ClientId}
 use Rattle.qu_frames.specs.declared.frame.Letter.{Letter}
-use Rattle.qu_lacking.specs.Waiting.{TakenRequest, Waiting, Running, taken_by}
+use Rattle.qu_waiting.specs.Waiting.{TakenRequest, Waiting, Running, taken_by}
 use Rattle.qu_rows.specs.State.{ReplicaState, AreHistories}
 use Rattle.qu_mends.specs.declared.accepted.Accepted.{Accepted}
 use Rattle.qu_rows.specs.declared.decision.Decision.TheVariants as decision

@@ -1,6 +1,6 @@
 -- The search begins behind what was lost.
 use Rattle.std.proofs.Common.{arith}
-use Rattle.qu_flow.proofs.WaitingFacts.{begins_lost}
+use Rattle.qu_script.proofs.WaitingFacts.{begins_lost}
 use Rattle.qu_script.proofs.player.Player.lose.Goals as goal
 
 pub invariant_of-self : goal.invariant_of-self

@@ -1,5 +1,5 @@
 -- What was delivered stays so.
-use Rattle.qu_flow.proofs.WaitingFacts.{begins_applied}
+use Rattle.qu_script.proofs.WaitingFacts.{begins_applied}
 use Rattle.qu_script.proofs.player.Player.make_event.Goals as goal
 
 pub invariant_of-self : goal.invariant_of-self

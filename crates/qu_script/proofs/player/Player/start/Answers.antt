@@ -1,7 +1,7 @@
 -- The first search begins at the first letter.
 use Rattle.std.proofs.Common.{◌≡◌, ap, arith}
-use Rattle.qu_flow.specs.Outage.{OutageState}
-use Rattle.qu_flow.proofs.WaitingFacts.{begins_lost}
+use Rattle.qu_script.specs.Outage.{OutageState}
+use Rattle.qu_script.proofs.WaitingFacts.{begins_lost}
 use Rattle.qu_script.proofs.player.Player.start.Goals as goal
 
 pub invariant_of-result : goal.invariant_of-result

@@ -1,4 +1,0 @@
-pub mod Whom
-pub mod Verdicts
-pub mod Work
-pub mod Needed

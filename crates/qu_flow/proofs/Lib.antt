@@ -1,2 +1,0 @@
-pub mod OutageFacts
-pub mod WaitingFacts

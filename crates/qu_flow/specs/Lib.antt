@@ -1,2 +1,0 @@
-pub mod Outage
-pub mod Waiting

@@ -1,0 +1,6 @@
+use Rattle.std.proofs.Common.{◌≡◌, map, take}
+use Rattle.qu_kept.specs.Remedy.{copied_member}
+use Rattle.qu_kept.proofs.course.copied_members.Given as goal
+
+abbrev pub invariant-loop-part : goal.invariant-loop-part
+invariant-loop-part l = l.members ≡ map copied_member (take l.part-index l.joint)

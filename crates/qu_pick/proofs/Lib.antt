@@ -1,2 +1,0 @@
-pub mod AskedFirst
-pub mod Waits

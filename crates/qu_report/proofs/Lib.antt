@@ -1,2 +1,0 @@
-pub mod RangeFacts
-pub mod ReportFacts

@@ -1,5 +1,0 @@
-use Rattle.qu_sync.proofs.EqualBytes.{same_as_itself}
-use Rattle.qu_sync.proofs.fetching.keep.Goals as goal
-
-pub returns-in-Ok-clause-counted : goal.returns-in-Ok-clause-counted
-returns-in-Ok-clause-counted c = rw (same_as_itself c.args.text) at (c.in-Ok.ensures.counted c.args.text)

@@ -1,2 +1,0 @@
-pub mod RefusalNumber
-pub mod Tally
