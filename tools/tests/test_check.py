@@ -108,9 +108,9 @@ class Refused(unittest.TestCase):
         self.assertEqual(len(self.found(self.check.check_documents, texts, {"qu_base": (1, [])})), 2)
 
     def test_a_crate_that_nothing_imports(self):
-        texts = self.changed("crates.txt", "qu_script: qu_base ", "qu_script: qu_base qu_seal ")
+        texts = self.changed("crates.txt", "qu_marks: qu_base ", "qu_marks: qu_base qu_seal ")
         what = self.found(self.check.check_crates, texts, self.check.read_crates(texts))
-        self.assertEqual(what, ["qu_script does not import qu_seal"])
+        self.assertEqual(what, ["qu_marks does not import qu_seal"])
 
     def test_this_repository(self):
         self.assertEqual(self.found(self.check.look), [])

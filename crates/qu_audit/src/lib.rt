@@ -1,5 +1,5 @@
-//! Whether the premises hold of a run, and else the first event that breaks one: what is forged at an event, what letters
-//! showed before it, and which texts are digested at it, of which no two may have one digest.
+//! Whether the premises hold of a run, and else the first event that breaks one: what is forged at an event, what
+//! letters showed before it, and which texts are digested at it, of which no two may have one digest.
 #![tactic(auto)]
 
 mod auditing;

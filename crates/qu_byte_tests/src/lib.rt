@@ -9,12 +9,6 @@ mod generator;
 #[cfg(test)]
 mod io;
 #[cfg(test)]
-mod pick;
-#[cfg(test)]
 mod seal;
 #[cfg(test)]
 mod stamp;
-#[cfg(test)]
-mod sync;
-#[cfg(test)]
-mod vote;

@@ -1,5 +1,5 @@
-//! A client: it asks replicas to perform its operations, first a preferred quorum of them, has mended what hinders them,
-//! counts their verdicts, and takes a quorum's answer; and how long it rests before it asks again.
+//! A client: it asks replicas to perform its operations, first a preferred quorum of them, has mended what hinders
+//! them, counts their verdicts, and takes a quorum's answer; and how long it rests before it asks again.
 #![tactic(auto)]
 
 mod backoff;

@@ -1,6 +1,6 @@
-//! What the versions of objects keep of clients and of other objects, and what acts and remedies make of them: an update
-//! that comes again is told its answer and never performed twice, and what mends an object rests on a version that is
-//! there.
+//! What the versions of objects keep of clients and of other objects, and what acts and remedies make of them: an
+//! update that comes again is told its answer and never performed twice, and what mends an object rests on a version
+//! that is there.
 #![tactic(auto)]
 
 mod adding;

@@ -1,6 +1,6 @@
 //! The script language: what the lines of a script say, how each is read behind those before it, and how a text is read
-//! line by line to the script or its first refusal; and what could stand where a script is refused, in words for people,
-//! of which no theorem speaks.
+//! line by line to the script or its first refusal; and what could stand where a script is refused, in words for
+//! people, of which no theorem speaks.
 #![tactic(auto)]
 
 mod bringing;

@@ -10,7 +10,7 @@ use std::alloc::Global;
 use std::test::Fail;
 
 /// The class of the object, of which a quorum has to be shown.
-pub(super) fn class_in(sets: &Sets, bounds: &Bounds) -> Result<Class, Fail> {
+fn class_in(sets: &Sets, bounds: &Bounds) -> Result<Class, Fail> {
     holds(sets.entries(OBJECT) >= bounds.q(), "a quorum")?;
     Ok(classify(sets, OBJECT, bounds))
 }

@@ -5,9 +5,13 @@
 #[cfg(test)]
 mod adversary;
 #[cfg(test)]
+mod backoff;
+#[cfg(test)]
 mod class;
 #[cfg(test)]
 mod client;
+#[cfg(test)]
+mod fetching;
 #[cfg(test)]
 mod frames;
 #[cfg(test)]
@@ -25,18 +29,10 @@ mod needed;
 #[cfg(test)]
 mod needing;
 #[cfg(test)]
-mod random_class;
-#[cfg(test)]
-mod random_members;
-#[cfg(test)]
-mod random_sets;
-#[cfg(test)]
 mod replica;
 #[cfg(test)]
 mod rows;
 #[cfg(test)]
-mod slow_class;
-#[cfg(test)]
-mod slow_plan;
+mod tally;
 #[cfg(test)]
 mod versions;

@@ -1,5 +1,5 @@
-//! What is told of a run: operations and answers in words, what happened, which operations are open, how many ended, and
-//! the counters behind the points; and the report of a run, or one line that sums it up.
+//! What is told of a run: operations and answers in words, what happened, which operations are open, how many ended,
+//! and the counters behind the points; and the report of a run, or one line that sums it up.
 #![tactic(auto)]
 
 mod ends;

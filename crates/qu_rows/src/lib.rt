@@ -1,5 +1,6 @@
 //! What a replica makes of a request: its sets are culled, and it is decided upon what is left of them by the replica's
-//! tables: the rows of an act and of a query, and those of a request to mend an object, each by itself, and their order.
+//! tables: the rows of an act and of a query, and those of a request to mend an object, each by itself, and their
+//! order.
 #![tactic(auto)]
 
 mod asked;
