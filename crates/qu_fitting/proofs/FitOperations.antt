@@ -1,15 +1,14 @@
 -- What a replica decides upon an act or a query that fits, fits: its verdict, and the candidates that it accepts.
 use Rattle.std.proofs.Common.{◌≡◌, ℕ, ◌+◌, ◌<◌, ◌≤◌, Bool, true, false, cond, List, [], ◌∷◌, ◌∙◌, length, map, Option, None, Some, refl, sym, ap, subst, arith}
-use Rattle.std.specs.Prelude.{◌==◌, nat_le, find, option_map, option_and_then, unwrap_or}
+use Rattle.std.specs.Prelude.{◌==◌, find, option_map, option_and_then}
 use Rattle.std.specs.List.{AllByRecursion, list_all, filter_map, cons_option, filter}
-use Rattle.std.proofs.lemmas.Bool.{and_parts, false≢true, leb-false, cond_both}
+use Rattle.std.proofs.lemmas.Bool.{and_parts, false≢true, cond_both}
 use Rattle.std.proofs.lemmas.Option.{none-some, same_Some}
 use Rattle.std.proofs.lemmas.List.{length-map}
 use Rattle.qu_base.specs.declared.party.ObjectId.{ObjectId}
 use Rattle.qu_stamp.specs.declared.stamp.Stamp.{Stamp}
 use Rattle.qu_stamp.specs.declared.limits.TheConstants.{LAST_TIME}
 use Rattle.qu_stamp.specs.declared.candidate.Candidate.{Candidate}
-use Rattle.qu_stamp.specs.Candidate.{opening}
 use Rattle.qu_stamp.specs.Stamp.{is_below}
 use Rattle.qu_stamp.specs.Formats.{stamp_form, group_form}
 use Rattle.qu_stamp.proofs.Order.{is_below_by_time}
@@ -34,13 +33,14 @@ use Rattle.qu_verdicts.specs.declared.verdict.Refusal.TheVariants.{NotCurrent, N
 use Rattle.qu_verdicts.specs.declared.verdict.Verdict.TheVariants.{Refused}
 use Rattle.qu_verdicts.specs.Formats.{stamps_form, verdict_form}
 use Rattle.qu_versions.specs.Versions.{version_at}
+use Rattle.qu_mends.specs.declared.seen.Seen.{Seen}
+use Rattle.qu_mends.specs.Mending.{is_held_in}
 use Rattle.qu_rows.specs.declared.decision.Decision.{Decision}
 use Rattle.qu_rows.specs.declared.decision.Decision.TheVariants.{Waits}
 use Rattle.qu_rows.specs.State.{ReplicaState, own_candidates, own_latest}
-use Rattle.qu_rows.specs.Rows.{Asked, refuse_first, shown_of, method_base, base_version, base_versions, base_stamps, fresh_stamp, fresh_group, fresh_act, fresh_stamps, fresh_versions, standing_in, done_again, repeated, row_retry, is_held, row_current, row_method, row_version, row_kept, row_time, row_full, row_done, row_told, class_told, decide_act, decide_ask}
-use Rattle.qu_rows.proofs.Allowed.{none_refused}
-use Rattle.qu_rows.proofs.Carried.{fresh_on-stamp}
-use Rattle.qu_rows.proofs.Held.{is_held_by, own_in_time}
+use Rattle.qu_rows.specs.Rows.{Asked, refuse_first, seen_of, seen_each, shown_of, method_base, version_seen, base_version, base_versions, base_key, base_keys, versions_under, fresh_stamp, fresh_keys, fresh_group, group_seen, fresh_candidate, is_held, standing_in, done_again, repeated, row_retry, row_current, row_method, row_version, row_kept, row_time, row_full, row_done, row_told, class_told, decide_act, decide_ask}
+use Rattle.qu_rows.proofs.Allowed.{made_of}
+use Rattle.qu_rows.proofs.Held.{own_in_time}
 use Rattle.qu_fitting.specs.Fits.{ValueFits, RowFits, VersionFits, StateFits}
 use Rattle.qu_fitting.proofs.CarriedEach.{fresh_upon, with_stamps, accepted_each, fresh_candidates, versions_made, AreBases, AreBefores, done_each, fresh_each, told_each}
 use Rattle.qu_fitting.proofs.FitAccepted.{AcceptAllFit, version_fits}
@@ -51,7 +51,7 @@ use Rattle.qu_fitting.proofs.FitStamps.{CandidateFits, stamp_fits, later_time, n
 use Rattle.qu_fitting.proofs.FitStandings.{StandingFits, standing_in-fits}
 use Rattle.qu_fitting.proofs.FitVerdicts.{time_fits, full_fits, method_fits, current_fits, spent_fits, stamps_fit, done_fits, told_fits, already_fits, performed_fits, values_fitting, read_fits}
 use Rattle.qu_fitting.proofs.FitVersions.{act_sized}
-use Rattle.qu_fitting.proofs.PassedRows.{each_weaker, base_of, before_of, passed_method, passed_version}
+use Rattle.qu_fitting.proofs.PassedRows.{each_weaker, of_seen, base_of, before_of, passed_method, passed_version, passed_time}
 use Rattle.qu_kept.proofs.RisingObjects.{IsNumbered, all_numbered, all_distinct}
 use Rattle.qu_fitting.proofs.RisingParts.{PartsRise}
 
@@ -87,12 +87,11 @@ if_given : (test : Bool) (row : Option Decision) → (test ≡ true → Gives ro
 if_given true row gives = gives refl
 if_given false row gives = λ decision given. absurd (none-some decision given)
 
-refusing_first : (bad : ObjectId → Bool) (why : ObjectId → Refusal) (objects : List ObjectId)
-    → AllByRecursion (λ object. verdict_form.Fits (Refused (why object))) objects
-    → Gives (refuse_first bad why objects)
-refusing_first bad why objects all =
-    refusing why (find bad objects)
-    (λ object found. found_has (λ it. verdict_form.Fits (Refused (why it))) bad objects all object found)
+refusing_first : {X : Type 0} (bad : X → Bool) (why : X → Refusal) (items : List X)
+    → AllByRecursion (λ item. verdict_form.Fits (Refused (why item))) items → Gives (refuse_first bad why items)
+refusing_first bad why items all =
+    refusing why (find bad items)
+    (λ item found. found_has (λ it. verdict_form.Fits (Refused (why it))) bad items all item found)
 
 waiting : (missing : List (ObjectId × Stamp)) → AllByRecursion KeyFits missing → (test : Bool)
     → Gives (cond test (Some (Waits missing)) None)
@@ -209,82 +208,92 @@ module _ (state : ReplicaState) (asked : Asked) (fits : StateFits state) (asks :
   before_fits object version is = found_fits object (method_base state asked object) version is
 
   -- a fresh candidate that is held has a base, and a time up to the last
-  held_from : (group : List (ObjectId × ℕ)) (object : ObjectId) (found : Option Candidate)
-      → fresh_act state asked group object ≡ found → is_held_by state object found ≡ true
-      → (fresh : Candidate) × (fresh_act state asked group object ≡ Some fresh)
-      × (holds fresh (own_candidates state object) ≡ true)
-  held_from group object None is holding = absurd (false≢true holding)
-  held_from group object (Some fresh) is holding = (fresh, is, holding)
+  held_from : (group : List (ObjectId × ℕ)) (one : Seen) (found : Option Candidate)
+      → fresh_candidate asked group one ≡ found → is_held_in (own_candidates state one.object) found ≡ true
+      → (fresh : Candidate) × (fresh_candidate asked group one ≡ Some fresh)
+      × (holds fresh (own_candidates state one.object) ≡ true)
+  held_from group one None is holding = absurd (false≢true holding)
+  held_from group one (Some fresh) is holding = (fresh, is, holding)
 
-  based : (group : List (ObjectId × ℕ)) (object : ObjectId) (found : Option Candidate) (fresh : Candidate)
-      → option_map (fresh_upon asked group object) found ≡ Some fresh → found ≡ Some (unwrap_or found opening)
-  based group object None fresh made = absurd (none-some fresh made)
-  based group object (Some base) fresh made = refl
-
-  held_fits : (group : List (ObjectId × ℕ)) (object : ObjectId) → is_held state asked group object ≡ true
-      → (method_base state asked object ≡ Some (base_of state asked object))
-      × stamp_form.Fits (fresh_stamp asked object)
+  held_fits : (group : List (ObjectId × ℕ)) (object : ObjectId)
+      → is_held state asked group (seen_of state asked object) ≡ true → stamp_form.Fits (fresh_stamp asked object)
   unfolding is_held
   held_fits group object holding =
-      let held = held_from group object (fresh_act state asked group object) refl holding in
+      let one : Seen = seen_of state asked object in
+      let held = held_from group one (fresh_candidate asked group one) refl holding in
       let last : ((held.0).stamp).time ≤ LAST_TIME = own_in_time state object held.0 fits.own held.2 in
-      let time_is : (latest_of (shown_of asked object)).time + 1 ≡ ((held.0).stamp).time =
-      ap (λ (it : Stamp). it.time) (fresh_on-stamp state asked group object held.0 held.1) in (
-        based group object (method_base state asked object) held.0 held.1,
-        fresh_fits object (omega (arith, time_is, last)),
-      )
+      let time_is : ((held.0).stamp).time ≡ (latest_of (shown_of asked object)).time + 1 =
+      ap (λ (it : Stamp). it.time) (made_of asked group one held.0 held.1).1 in
+      fresh_fits object (omega (arith, time_is, last))
 
   -- ---- the rows, of objects that have numbers
 
   module _ (objects : List ObjectId) (numbered : AllByRecursion IsNumbered objects) where
-    current : Gives (row_current state asked objects)
+    abbrev seen : List Seen
+    seen = seen_each state asked objects
+
+    -- what fits each object that has a number fits what was seen of it
+    each_numbered : (P : Seen → Type 0) → ((object : ObjectId) → IsNumbered object → P (seen_of state asked object))
+        → AllByRecursion P seen
+    each_numbered P gives = by objects numbered
+      where
+        by : (some : List ObjectId) → AllByRecursion IsNumbered some → AllByRecursion P (seen_each state asked some)
+        by [] within = tt
+        by (object ∷ later) within = (gives object within.0, by later within.1)
+
+    current : Gives (row_current state seen)
     unfolding row_current
-    current = refusing_first _ (λ it. NotCurrent it (own_latest state it)) objects
-        (each_weaker IsNumbered (λ it. verdict_form.Fits (Refused (NotCurrent it (own_latest state it)))) objects
-        (λ it within. current_fits it within (own_latest state it) (own_fits state asked fits asks it)) numbered)
+    current = refusing_first _ (λ (it : Seen). NotCurrent it.object (own_latest state it.object)) seen
+        (each_numbered (λ it. verdict_form.Fits (Refused (NotCurrent it.object (own_latest state it.object))))
+        (λ it within. current_fits it within (own_latest state it) (own_fits state asked fits asks it)))
 
-    method : Gives (row_method state asked objects)
+    method : Gives (row_method seen)
     unfolding row_method
-    method = refusing_first _ (λ it. NotMethod it (class_told state asked it)) objects
-        (each_weaker IsNumbered (λ it. verdict_form.Fits (Refused (NotMethod it (class_told state asked it)))) objects
-        (λ it within. method_fits it within (class_told state asked it)) numbered)
+    method = refusing_first _ (λ (it : Seen). NotMethod it.object (class_told it)) seen
+        (each_numbered (λ it. verdict_form.Fits (Refused (NotMethod it.object (class_told it))))
+        (λ it within. method_fits it within (class_told (seen_of state asked it))))
 
-    time : Gives (row_time state asked objects)
+    time : Gives (row_time seen)
     unfolding row_time
-    time = refusing_first _ TimeSpent objects
-        (each_weaker IsNumbered (λ it. verdict_form.Fits (Refused (TimeSpent it))) objects
-        (λ it within. time_fits it within) numbered)
+    time = refusing_first _ (λ (it : Seen). TimeSpent it.object) seen
+        (each_numbered (λ it. verdict_form.Fits (Refused (TimeSpent it.object))) (λ it within. time_fits it within))
 
-    full : Gives (row_full state asked objects)
+    full : Gives (row_full state seen)
     unfolding row_full
-    full = refusing_first _ HistoryFull objects
-        (each_weaker IsNumbered (λ it. verdict_form.Fits (Refused (HistoryFull it))) objects
-        (λ it within. full_fits it within) numbered)
+    full = refusing_first _ (λ (it : Seen). HistoryFull it.object) seen
+        (each_numbered (λ it. verdict_form.Fits (Refused (HistoryFull it.object))) (λ it within. full_fits it within))
 
     key_of : (object : ObjectId) → IsNumbered object → (found : Option Candidate)
         → method_base state asked object ≡ found → (key : ObjectId × Stamp)
-        → option_map (λ (stamp : Stamp). (object, stamp)) (option_map (λ (base : Candidate). base.stamp) found)
-        ≡ Some key → KeyFits key
+        → option_map (λ (base : Candidate). (object, base.stamp)) found ≡ Some key → KeyFits key
     key_of object within None is key given = absurd (none-some key given)
     key_of object within (Some base) is key given =
         subst KeyFits (same_Some (object, base.stamp) key given) (base_key_fits object within base is)
 
-    lacking : Gives (row_version state asked objects)
+    -- what is found by what was seen of each
+    found_seen : {Y : Type 0} (P : Y → Type 0) (of : Seen → Option Y) → ((object : ObjectId) → IsNumbered object
+        → (found : Y) → of (seen_of state asked object) ≡ Some found → P found)
+        → AllByRecursion P (filter_map of seen)
+    found_seen {Y = Y} P of has = found_each (λ one. (found : Y) → of one ≡ Some found → P found) P of
+        (λ one here found is. here found is) seen
+        (each_numbered (λ one. (found : Y) → of one ≡ Some found → P found) has)
+
+    lacking : Gives (row_version state seen)
     unfolding row_version
-    lacking = waiting _ (each_passing KeyFits _ (base_stamps state asked objects)
-        (found_each IsNumbered KeyFits _
-        (λ object within key given. key_of object within (method_base state asked object) refl key given) objects
-        numbered)) _
+    lacking = waiting _ (each_passing KeyFits _ (base_keys seen) (found_seen KeyFits base_key
+        (λ object within key given. key_of object within (method_base state asked object) refl key given))) _
 
-    base_all : AllByRecursion VersionFits (base_versions state asked objects)
-    base_all = found_each IsNumbered VersionFits (λ object. base_version state asked object)
-        (λ object within version is. before_fits object version is) objects numbered
+    base_all : AllByRecursion VersionFits (base_versions state seen)
+    base_all = found_seen VersionFits (version_seen state) (λ object within version is. before_fits object version is)
 
-    fresh_all : AllByRecursion VersionFits (fresh_versions state asked objects)
-    fresh_all = found_each IsNumbered VersionFits
-        (λ object. version_at object (fresh_stamp asked object) state.versions)
-        (λ object within version is.
-        version_fits object (fresh_stamp asked object) state.versions version fits.versions is) objects numbered
+  -- versions that a replica has fit
+  under_all : (keys : List (ObjectId × Stamp)) → AllByRecursion VersionFits (versions_under state keys)
+  under_all keys = found_each (λ key. Unit {0}) VersionFits (λ key. version_at key.0 key.1 state.versions)
+      (λ key any version is. version_fits key.0 key.1 state.versions version fits.versions is) keys (any_each keys)
+    where
+      any_each : (keys : List (ObjectId × Stamp)) → AllByRecursion (λ key. Unit {0}) keys
+      any_each [] = tt
+      any_each (key ∷ later) = (tt, any_each later)
 
   -- ---- an act
 
@@ -295,32 +304,30 @@ module _ (state : ReplicaState) (asked : Asked) (fits : StateFits state) (asks :
     numbered : AllByRecursion IsNumbered (objects_named parts)
     numbered = all_numbered 0 (objects_named parts) rise.rise
 
-    retry : Gives (row_retry state asked parts objects)
+    abbrev all_seen : List Seen
+    all_seen = seen_each state asked objects
+
+    retry : Gives (row_retry state asked parts all_seen)
     unfolding row_retry
     retry = if_given _ _ (λ all.
-        let is_held_so : ObjectId → Bool = is_held state asked (fresh_group asked objects) in
-        let held : AllByRecursion (λ object. is_held_so object ≡ true) objects = each_true is_held_so objects all in
-        let bases : AreBases state asked (base_of state asked) (before_of state asked) objects =
-        each_weaker (λ object. is_held_so object ≡ true)
-        (λ object. method_base state asked object ≡ Some (base_of state asked object)) objects
-        (λ object is. (held_fits (fresh_group asked objects) object is).0) held in
+        let group : List (ObjectId × ℕ) = group_seen asked all_seen in
+        let keys : List (ObjectId × Stamp) = fresh_keys asked all_seen in
         let stamps : AllByRecursion (λ object. stamp_form.Fits (fresh_stamp asked object)) objects =
-        each_weaker (λ object. is_held_so object ≡ true) (λ object. stamp_form.Fits (fresh_stamp asked object)) objects
-        (λ object is. (held_fits (fresh_group asked objects) object is).1) held in
-        again_fits (fresh_stamps state asked objects)
-        (subst (λ (it : List (ObjectId × Stamp)). stamps_form.Fits it)
-        (sym (fresh_each state asked (base_of state asked) (before_of state asked) objects bases))
-        (stamps_fit (fresh_stamp asked) parts rise stamps))
-        (standing_in asked parts (fresh_versions state asked objects))
-        (standing_in-fits asked parts (fresh_versions state asked objects) numbered (fresh_all objects numbered)))
+        of_seen state asked (λ one. is_held state asked group one ≡ true)
+        (λ object. stamp_form.Fits (fresh_stamp asked object)) objects (λ object is. held_fits group object is)
+        (each_true (is_held state asked group) all_seen all) in
+        again_fits keys (subst (λ (it : List (ObjectId × Stamp)). stamps_form.Fits it)
+        (sym (fresh_each state asked objects)) (stamps_fit (fresh_stamp asked) parts rise stamps))
+        (standing_in asked parts (versions_under state keys))
+        (standing_in-fits asked parts (versions_under state keys) numbered (under_all keys)))
 
-    repeats : Gives (row_kept state asked parts objects)
+    repeats : Gives (row_kept asked parts (base_versions state all_seen))
     unfolding row_kept
     repeats = repeated_fits _
-        (standing_in-fits asked parts (base_versions state asked objects) numbered (base_all objects numbered))
+        (standing_in-fits asked parts (base_versions state all_seen) numbered (base_all objects numbered))
 
-    module _ (is_method : row_method state asked objects ≡ None) (is_version : row_version state asked objects ≡ None)
-        (is_time : row_time state asked objects ≡ None) where
+    module _ (is_method : row_method all_seen ≡ None) (is_version : row_version state all_seen ≡ None)
+        (is_time : row_time all_seen ≡ None) where
       bases : AreBases state asked (base_of state asked) (before_of state asked) objects
       bases = passed_method state asked objects is_method
 
@@ -333,10 +340,7 @@ module _ (state : ReplicaState) (asked : Asked) (fits : StateFits state) (asks :
           (λ object is. before_fits object (before_of state asked object) is) befores
 
       in_time : AllByRecursion (λ object. (latest_of (shown_of asked object)).time < LAST_TIME) objects
-      unfolding row_time
-      in_time = each_weaker (λ object. nat_le LAST_TIME (latest_of (shown_of asked object)).time ≡ false)
-          (λ object. (latest_of (shown_of asked object)).time < LAST_TIME) objects
-          (λ object not_spent. leb-false _ _ not_spent) (none_refused _ TimeSpent objects is_time)
+      in_time = passed_time state asked objects is_time
 
       -- the candidate of an object
       abbrev fresh : ObjectId → Candidate
@@ -417,7 +421,7 @@ module _ (state : ReplicaState) (asked : Asked) (fits : StateFits state) (asks :
           (λ object. stamp_form.Fits (fresh_stamp asked object) × VersionFits (before_of state asked object))
           (λ object stamp version. (stamp, version)) objects stamps versions)
 
-      done : Gives (row_done state asked parts objects)
+      done : Gives (row_done asked parts all_seen (base_versions state all_seen))
       done decision given =
           subst DecisionFits
           (same_Some _ decision
@@ -455,8 +459,11 @@ module _ (state : ReplicaState) (asked : Asked) (fits : StateFits state) (asks :
     numbered_asked : AllByRecursion IsNumbered (objects_named query)
     numbered_asked = all_numbered 0 (objects_named query) rise.rise
 
-    told : row_method state asked asked_objects ≡ None → row_version state asked asked_objects ≡ None
-        → Gives (row_told state asked query asked_objects)
+    abbrev seen_asked : List Seen
+    seen_asked = seen_each state asked asked_objects
+
+    told : row_method seen_asked ≡ None → row_version state seen_asked ≡ None
+        → Gives (row_told query seen_asked (base_versions state seen_asked))
     told is_method is_version decision given =
         let are_bases : AreBases state asked (base_of state asked) (before_of state asked) asked_objects =
         passed_method state asked asked_objects is_method in

@@ -41,12 +41,13 @@ use Rattle.qu_verdicts.specs.declared.verdict.Refusal.TheVariants as refusal
 use Rattle.qu_verdicts.specs.declared.verdict.Verdict.TheVariants.{Done}
 use Rattle.qu_verdicts.specs.declared.verdict.Verdict.TheVariants as verdict
 use Rattle.qu_mends.specs.declared.accepted.Accepted.{Accepted}
+use Rattle.qu_mends.specs.declared.seen.Seen.{Seen}
 use Rattle.qu_rows.specs.declared.decision.Decision.{Decision}
 use Rattle.qu_rows.specs.declared.decision.Decision.TheVariants.{Answers, Waits}
 use Rattle.qu_rows.specs.State.{ReplicaState, own_candidates, own_latest}
 use Rattle.qu_mends.specs.Table.{candidates_in}
 use Rattle.qu_fitting.specs.Holding.{with_candidate, accept_all}
-use Rattle.qu_rows.specs.Rows.{Asked, asked_at, refuse, shown_of, fresh_stamp, standing_in, done_again, repeated, row_unknown, row_thin, row_retry, row_current, row_method, row_version, row_kept, row_time, row_full, row_done, row_told, decide_act, decide_ask}
+use Rattle.qu_rows.specs.Rows.{Asked, asked_at, refuse, seen_each, base_versions, shown_of, fresh_stamp, standing_in, done_again, repeated, row_unknown, row_thin, row_retry, row_current, row_method, row_version, row_kept, row_time, row_full, row_done, row_told, decide_act, decide_ask}
 use Rattle.qu_mends.specs.Table.{first_given}
 use Rattle.qu_replica.specs.Step.{carried_out, replica_on_frame}
 use Rattle.qu_versions.specs.Versions.{version_at}
@@ -98,45 +99,40 @@ pub thin : (state : ReplicaState) (asked : Asked) → AcceptsNothing (row_thin s
 unfolding row_thin
 thin state asked = refusing _ _
 
-retry : (state : ReplicaState) (asked : Asked) (parts : List (ObjectId × Method)) (objects : List ObjectId)
-    → AcceptsNothing (row_retry state asked parts objects)
+retry : (state : ReplicaState) (asked : Asked) (parts : List (ObjectId × Method)) (seen : List Seen)
+    → AcceptsNothing (row_retry state asked parts seen)
 unfolding row_retry
-retry state asked parts objects = answering _ _ _
+retry state asked parts seen = answering _ _ _
 
-kept : (state : ReplicaState) (asked : Asked) (parts : List (ObjectId × Method)) (objects : List ObjectId)
-    → AcceptsNothing (row_kept state asked parts objects)
+kept : (asked : Asked) (parts : List (ObjectId × Method)) (before : List ObjState)
+    → AcceptsNothing (row_kept asked parts before)
 unfolding row_kept
-kept state asked parts objects = repeating _
+kept asked parts before = repeating _
 
-pub current : (state : ReplicaState) (asked : Asked) (objects : List ObjectId)
-    → AcceptsNothing (row_current state asked objects)
+current : (state : ReplicaState) (seen : List Seen) → AcceptsNothing (row_current state seen)
 unfolding row_current
-current state asked objects = refusing _ _
+current state seen = refusing _ _
 
-method : (state : ReplicaState) (asked : Asked) (objects : List ObjectId)
-    → AcceptsNothing (row_method state asked objects)
+method : (seen : List Seen) → AcceptsNothing (row_method seen)
 unfolding row_method
-method state asked objects = refusing _ _
+method seen = refusing _ _
 
-pub version : (state : ReplicaState) (asked : Asked) (objects : List ObjectId)
-    → AcceptsNothing (row_version state asked objects)
+version : (state : ReplicaState) (seen : List Seen) → AcceptsNothing (row_version state seen)
 unfolding row_version
-version state asked objects = waiting _ _
+version state seen = waiting _ _
 
-pub time : (state : ReplicaState) (asked : Asked) (objects : List ObjectId)
-    → AcceptsNothing (row_time state asked objects)
+time : (seen : List Seen) → AcceptsNothing (row_time seen)
 unfolding row_time
-time state asked objects = refusing _ _
+time seen = refusing _ _
 
-pub full : (state : ReplicaState) (asked : Asked) (objects : List ObjectId)
-    → AcceptsNothing (row_full state asked objects)
+full : (state : ReplicaState) (seen : List Seen) → AcceptsNothing (row_full state seen)
 unfolding row_full
-full state asked objects = refusing _ _
+full state seen = refusing _ _
 
-told-accepts : (state : ReplicaState) (asked : Asked) (parts : List (ObjectId × Ask)) (objects : List ObjectId)
-    → AcceptsNothing (row_told state asked parts objects)
+told-accepts : (parts : List (ObjectId × Ask)) (seen : List Seen) (before : List ObjState)
+    → AcceptsNothing (row_told parts seen before)
 unfolding row_told
-told-accepts state asked parts objects decision given = ap accepted_in (sym (same_Some _ decision given))
+told-accepts parts seen before decision given = ap accepted_in (sym (same_Some _ decision given))
 
 -- past a row that accepts nothing, the later ones decide
 pub past : (P : List Accepted → Type 0) (row : Option Decision) (later : List (Option Decision)) → P []
@@ -157,10 +153,10 @@ ask_accepts state asked parts objects =
     let none : List Accepted → Type 0 = λ accepted. accepted ≡ [] in
     past none _ _ refl (unknown state asked) (λ _.
     past none _ _ refl (thin state asked) (λ _.
-    past none _ _ refl (current state asked objects) (λ _.
-    past none _ _ refl (method state asked objects) (λ _.
-    past none _ _ refl (version state asked objects) (λ _.
-    past none _ _ refl (told-accepts state asked parts objects) (λ _. no_more))))))
+    past none _ _ refl (current state _) (λ _.
+    past none _ _ refl (method _) (λ _.
+    past none _ _ refl (version state _) (λ _.
+    past none _ _ refl (told-accepts parts _ _) (λ _. no_more))))))
 
 -- ---- the row that accepts
 
@@ -180,6 +176,9 @@ each_lower client number before (object ∷ later) lower =
 module _ (state : ReplicaState) (asked : Asked) (parts : List (ObjectId × Method)) where
   abbrev objects : List ObjectId
   objects = objects_named parts
+
+  abbrev seen : List Seen
+  seen = seen_each state asked objects
 
   abbrev bases : ObjectId → Candidate
   bases = base_of state asked
@@ -203,7 +202,7 @@ module _ (state : ReplicaState) (asked : Asked) (parts : List (ObjectId × Metho
     pub all : accepted ≡ accepted_each fresh afters objects
 
   module _ (act : Digest) (is_act : asked.act ≡ Some act) (in_order : IsTrue (are_parts parts)) where
-    are_lower : AreBefores state asked bases befores objects → row_kept state asked parts objects ≡ None
+    are_lower : AreBefores state asked bases befores objects → row_kept asked parts (base_versions state seen) ≡ None
         → AllByRecursion (λ object. IsLower asked.number (row_of asked.client (befores object).kept)) objects
     unfolding row_kept
     are_lower are_befores none =
@@ -219,8 +218,8 @@ module _ (state : ReplicaState) (asked : Asked) (parts : List (ObjectId × Metho
         ((fresh_where asked.client asked.number act parts (map befores objects) in_order
         (length-map objects befores ∙ length-map parts (λ part. part.0))).0 (sym (ap stands is_act) ∙ is_new))
 
-    pub makes_all : row_current state asked objects ≡ None → row_method state asked objects ≡ None
-        → row_version state asked objects ≡ None → row_kept state asked parts objects ≡ None
+    pub makes_all : row_current state seen ≡ None → row_method seen ≡ None
+        → row_version state seen ≡ None → row_kept asked parts (base_versions state seen) ≡ None
         → MakesAll (accepted_each fresh afters objects)
     makes_all is_current is_method is_version is_new =
         let are_befores : AreBefores state asked bases befores objects =
@@ -233,9 +232,9 @@ module _ (state : ReplicaState) (asked : Asked) (parts : List (ObjectId × Metho
           all = refl;
         }
 
-    done : row_current state asked objects ≡ None → row_method state asked objects ≡ None
-        → row_version state asked objects ≡ None → row_kept state asked parts objects ≡ None
-        → MakesAll (accepted_in (first_given (Waits []) (row_done state asked parts objects ∷ [])))
+    done : row_current state seen ≡ None → row_method seen ≡ None
+        → row_version state seen ≡ None → row_kept asked parts (base_versions state seen) ≡ None
+        → MakesAll (accepted_in (first_given (Waits []) (row_done asked parts seen (base_versions state seen) ∷ [])))
     unfolding first_given
     done is_current is_method is_version is_new =
         let made : MakesAll (accepted_each fresh afters objects) =
@@ -253,13 +252,13 @@ module _ (state : ReplicaState) (asked : Asked) (parts : List (ObjectId × Metho
     act_accepts =
         past MakesAllOrNone _ _ (inl refl) (unknown state asked) (λ _.
         past MakesAllOrNone _ _ (inl refl) (thin state asked) (λ _.
-        past MakesAllOrNone _ _ (inl refl) (retry state asked parts objects) (λ _.
-        past MakesAllOrNone _ _ (inl refl) (current state asked objects) (λ is_current.
-        past MakesAllOrNone _ _ (inl refl) (method state asked objects) (λ is_method.
-        past MakesAllOrNone _ _ (inl refl) (version state asked objects) (λ is_version.
-        past MakesAllOrNone _ _ (inl refl) (kept state asked parts objects) (λ is_new.
-        past MakesAllOrNone _ _ (inl refl) (time state asked objects) (λ _.
-        past MakesAllOrNone _ _ (inl refl) (full state asked objects)
+        past MakesAllOrNone _ _ (inl refl) (retry state asked parts _) (λ _.
+        past MakesAllOrNone _ _ (inl refl) (current state _) (λ is_current.
+        past MakesAllOrNone _ _ (inl refl) (method _) (λ is_method.
+        past MakesAllOrNone _ _ (inl refl) (version state _) (λ is_version.
+        past MakesAllOrNone _ _ (inl refl) (kept asked parts _) (λ is_new.
+        past MakesAllOrNone _ _ (inl refl) (time _) (λ _.
+        past MakesAllOrNone _ _ (inl refl) (full state _)
         (λ _. inr (done is_current is_method is_version is_new))))))))))
 
 -- ---- what is accepted of an object

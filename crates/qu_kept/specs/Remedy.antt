@@ -15,12 +15,20 @@ use Rattle.qu_kept.specs.declared.remedy.Remedy.TheVariants.{Shown, Fresh, Unpla
 
 -- ---- what mends an object, and where others are mended with it, their group and their remedies
 
+-- no other object is mended with it
+abbrev pub no_others : List (ObjectId × ℕ)
+no_others = []
+
 abbrev pub alone : Remedy → Course
-alone remedy = record { remedy = remedy; group = []; members = [] }
+alone remedy = record { remedy = remedy; group = no_others; members = [] }
+
+-- these members are no group
+abbrev pub no_group : List (ObjectId × ℕ)
+no_group = []
 
 -- the group, as each candidate has one that is well formed
 abbrev pub whole_group : List (ObjectId × ℕ) → List (ObjectId × ℕ)
-whole_group group = if is_group group then group else []
+whole_group group = if is_group group then group else no_group
 
 -- the candidate that is copied on an object, as the plan tells
 abbrev pub copied_at : ObjectId → List (ObjectId × Candidate) → Option Candidate

@@ -24,7 +24,7 @@ use Rattle.qu_mends.specs.declared.mending.Mending.TheVariants.{Mends, Holds, Re
 use Rattle.qu_kept.specs.Remedy.{added_for, wanted_by, stored_by}
 use Rattle.qu_mends.specs.Remedy.{MendPart, fresh_repair, addition_by, addition_of, part_addition, missing_key}
 use Rattle.qu_mends.specs.Table.{first_given, has_no_room}
-use Rattle.qu_mends.specs.Mending.{unplanned_by, is_held_in, is_held_part, is_overtaken, is_late, is_spent, missing_in, accepted_parts, unmended_by, mend_row_plan, mend_row_held, mend_row_current, mend_row_sound, mend_row_version, mend_row_time, mend_row_full, mend_row_mended, decide_mend}
+use Rattle.qu_mends.specs.Mending.{unplanned_by, is_held_in, is_held_part, is_overtaken, is_late, is_spent, missing_in, accepted_parts, sound_by, unshown_by, mend_row_plan, mend_row_held, mend_row_current, mend_row_sound, mend_row_members, mend_row_version, mend_row_time, mend_row_full, mend_row_mended, decide_mend}
 use Rattle.qu_mends.specs.Causes.{MakesCandidate, AddsVersion, IsBehind, IsSpent, ArePartsOf, AddsPlain, RefusesFor, IsPartAdded, ArePartsAdded, IsPartHeld, HasCause}
 
 -- ---- the first row that fits
@@ -121,46 +121,39 @@ module _ (mend : Mend) where
   not_added true it none = absurd (false≢true none)
   not_added false it none = refl
 
+  -- neither row refuses what mends so: there is a plan, something to mend, and each member
+  abbrev MayAdd : Remedy → Type 0
+  MayAdd remedy = (unplanned_by remedy ≡ None) × (sound_by mend.target remedy ≡ None) × (unshown_by remedy ≡ None)
+
   -- what is not refused, and has nothing to add, has no time for it
-  spent : (latest : Stamp) (remedy : Remedy) → unplanned_by remedy ≡ None → unmended_by mend.target remedy ≡ None
-      → is_none (addition_by mend latest remedy) ≡ true → IsSpent latest remedy
+  spent : (latest : Stamp) (remedy : Remedy) → MayAdd remedy → is_none (addition_by mend latest remedy) ≡ true
+      → IsSpent latest remedy
   unfolding added_for
-  spent latest Nothing planned unsound none = absurd cc
-  spent latest (Unshown member) planned unsound none = absurd cc
-  spent latest (Unplanned other) planned unsound none = absurd cc
-  spent latest (Outdated other) planned unsound none = absurd cc
-  spent latest (Shown shown) planned unsound none =
+  spent latest Nothing may none = absurd (none-some _ (sym may.1))
+  spent latest (Unshown member) may none = absurd (none-some _ (sym may.2))
+  spent latest (Unplanned other) may none = absurd (none-some _ (sym may.0))
+  spent latest (Outdated other) may none = absurd (none-some _ (sym may.0))
+  spent latest (Shown shown) may none =
       leb-false shown.stamp.time LAST_TIME (not_added (leb shown.stamp.time LAST_TIME) shown none)
-  spent latest (Fresh barrier prior) planned unsound none =
+  spent latest (Fresh barrier prior) may none =
       ltb-false latest.time LAST_TIME
       (not_added (ltb latest.time LAST_TIME) (fresh_repair mend latest barrier prior) none)
 
-  -- what adds a candidate is planned and to be mended
-  planned_plain : (remedy : Remedy) → AddsPlain remedy → unplanned_by remedy ≡ None
-  planned_plain Nothing never = absurd never
-  planned_plain (Shown candidate) plain = refl
-  planned_plain (Fresh barrier prior) plain = refl
-  planned_plain (Unshown member) never = absurd never
-  planned_plain (Unplanned other) never = absurd never
-  planned_plain (Outdated other) never = absurd never
-
-  unsound_plain : (remedy : Remedy) → AddsPlain remedy → unmended_by mend.target remedy ≡ None
-  unsound_plain Nothing never = absurd never
-  unsound_plain (Shown candidate) plain = refl
-  unsound_plain (Fresh barrier prior) plain = refl
-  unsound_plain (Unshown member) never = absurd never
-  unsound_plain (Unplanned other) never = absurd never
-  unsound_plain (Outdated other) never = absurd never
+  plain_may : (remedy : Remedy) → AddsPlain remedy → MayAdd remedy
+  plain_may Nothing never = absurd never
+  plain_may (Shown candidate) plain = (refl, refl, refl)
+  plain_may (Fresh barrier prior) plain = (refl, refl, refl)
+  plain_may (Unshown member) never = absurd never
+  plain_may (Unplanned other) never = absurd never
+  plain_may (Outdated other) never = absurd never
 
   abbrev IsLike : MendPart → Type 0
   IsLike part = (part.remedy ≡ mend.remedy) ⊎ AddsPlain part.remedy
 
-  part_spent : (part : MendPart) → IsLike part → unplanned_by mend.remedy ≡ None
-      → unmended_by mend.target mend.remedy ≡ None → is_spent mend part ≡ true → IsSpent part.latest part.remedy
-  part_spent part (inl same) planned unsound none =
-      spent part.latest part.remedy (ap unplanned_by same ∙ planned) (ap (unmended_by mend.target) same ∙ unsound) none
-  part_spent part (inr plain) planned unsound none =
-      spent part.latest part.remedy (planned_plain part.remedy plain) (unsound_plain part.remedy plain) none
+  part_spent : (part : MendPart) → IsLike part → MayAdd mend.remedy → is_spent mend part ≡ true
+      → IsSpent part.latest part.remedy
+  part_spent part (inl same) may none = spent part.latest part.remedy (subst MayAdd (sym same) may) none
+  part_spent part (inr plain) may none = spent part.latest part.remedy (plain_may part.remedy plain) none
 
 -- there is no plan, and this is why
 unplanned_cause : (mend : Mend) (parts : List MendPart) (remedy : Remedy) (why : Refusal) → mend.remedy ≡ remedy
@@ -174,17 +167,27 @@ unplanned_cause mend parts (Unplanned other) why is given =
 unplanned_cause mend parts (Outdated other) why is given =
     subst (RefusesFor mend parts) (same_Some (Stale other) why given) is
 
--- nothing is added, and this is why
-unmended_cause : (mend : Mend) (parts : List MendPart) (remedy : Remedy) (why : Refusal) → mend.remedy ≡ remedy
-    → unmended_by mend.target remedy ≡ Some why → RefusesFor mend parts why
-unmended_cause mend parts Nothing why is given =
+-- there is nothing to mend
+sound_cause : (mend : Mend) (parts : List MendPart) (remedy : Remedy) (why : Refusal) → mend.remedy ≡ remedy
+    → sound_by mend.target remedy ≡ Some why → RefusesFor mend parts why
+sound_cause mend parts Nothing why is given =
     subst (RefusesFor mend parts) (same_Some (Sound mend.target) why given) (refl, is)
-unmended_cause mend parts (Shown candidate) why is given = absurd cc
-unmended_cause mend parts (Fresh barrier prior) why is given = absurd cc
-unmended_cause mend parts (Unshown member) why is given =
+sound_cause mend parts (Shown candidate) why is given = absurd cc
+sound_cause mend parts (Fresh barrier prior) why is given = absurd cc
+sound_cause mend parts (Unshown member) why is given = absurd cc
+sound_cause mend parts (Unplanned other) why is given = absurd cc
+sound_cause mend parts (Outdated other) why is given = absurd cc
+
+-- a member is not shown
+unshown_cause : (mend : Mend) (parts : List MendPart) (remedy : Remedy) (why : Refusal) → mend.remedy ≡ remedy
+    → unshown_by remedy ≡ Some why → RefusesFor mend parts why
+unshown_cause mend parts Nothing why is given = absurd cc
+unshown_cause mend parts (Shown candidate) why is given = absurd cc
+unshown_cause mend parts (Fresh barrier prior) why is given = absurd cc
+unshown_cause mend parts (Unshown member) why is given =
     subst (RefusesFor mend parts) (same_Some (Needs member) why given) (inl is)
-unmended_cause mend parts (Unplanned other) why is given = absurd cc
-unmended_cause mend parts (Outdated other) why is given = absurd cc
+unshown_cause mend parts (Unplanned other) why is given = absurd cc
+unshown_cause mend parts (Outdated other) why is given = absurd cc
 
 value_if : {X : Type 0} (found : Option X) → is_none found ≡ false → (value : X) × (found ≡ Some value)
 value_if None test = absurd (false≢true (sym test))
@@ -313,12 +316,11 @@ module _ (mend : Mend) (parts : List MendPart) where
   abbrev last : Mending
   last = Refuses (TimeSpent mend.target)
 
-  mended : unplanned_by mend.remedy ≡ None → unmended_by mend.target mend.remedy ≡ None
-      → find (is_late mend) parts ≡ None → list_any (λ part. is_some (missing_key part)) parts ≡ false
+  mended : MayAdd mend mend.remedy → find (is_late mend) parts ≡ None → list_any (λ part. is_some (missing_key part)) parts ≡ false
       → find (is_spent mend) parts ≡ None → find (λ part. has_no_room part.own) parts ≡ None
       → Fact (first_given last (mend_row_mended mend parts ∷ []))
   unfolding mend_row_mended
-  mended planned unsound current ready in_time room =
+  mended may current ready in_time room =
       row_if_added Fact last (accepted_parts mend parts) (addition_of mend)
       (λ candidate is. (
         (candidate, made mend mend.latest mend.remedy candidate is, refl),
@@ -327,10 +329,10 @@ module _ (mend : Mend) (parts : List MendPart) where
             (none_found (is_spent mend) parts in_time)
             (none_found (λ part. has_no_room part.own) parts room),
       ))
-      (λ none. inr (refl, spent mend mend.latest mend.remedy planned unsound (ap is_none none)))
+      (λ none. inr (refl, spent mend mend.latest mend.remedy may (ap is_none none)))
 
   pub decided_has_cause : ArePartsOf mend parts → HasCause mend parts (decide_mend mend parts)
-  unfolding decide_mend mend_row_plan mend_row_held mend_row_current mend_row_sound mend_row_version mend_row_time mend_row_full
+  unfolding decide_mend mend_row_plan mend_row_held mend_row_current mend_row_sound mend_row_members mend_row_version mend_row_time mend_row_full
   decided_has_cause are =
       row_by_given Fact last (λ why. why) (unplanned_by mend.remedy) _
       (λ why is. unplanned_cause mend parts mend.remedy why refl is)
@@ -345,13 +347,15 @@ module _ (mend : Mend) (parts : List MendPart) where
         refl,
         behind mend part (found_part (is_late mend) (IsLike mend) parts part are found).0,
       ))
-      (λ current. row_by_given Fact last (λ why. why) (unmended_by mend.target mend.remedy) _
-      (λ why is. unmended_cause mend parts mend.remedy why refl is)
-      (λ unsound. row_by_test Fact last _ (Waits (missing_in parts)) _ (λ test. (refl, test))
+      (λ current. row_by_given Fact last (λ why. why) (sound_by mend.target mend.remedy) _
+      (λ why is. sound_cause mend parts mend.remedy why refl is)
+      (λ unsound. row_by_given Fact last (λ why. why) (unshown_by mend.remedy) _
+      (λ why is. unshown_cause mend parts mend.remedy why refl is)
+      (λ shown. row_by_test Fact last _ (Waits (missing_in parts)) _ (λ test. (refl, test))
       (λ ready. row_by_given Fact last (λ part. TimeSpent part.object) (find (is_spent mend) parts) _
       (λ part found.
       let both = found_part (is_spent mend) (IsLike mend) parts part are found in
-      inl (part, found, refl, part_spent mend part both.1 planned unsound both.0))
+      inl (part, found, refl, part_spent mend part both.1 (planned, unsound, shown) both.0))
       (λ in_time. row_by_given Fact last (λ part. HistoryFull part.object) (find (λ part. has_no_room part.own) parts) _
       (λ part found. (
         part,
@@ -360,7 +364,7 @@ module _ (mend : Mend) (parts : List MendPart) where
         leb-true HISTORY_LIMIT (length part.own)
             (found_part (λ it. has_no_room it.own) (IsLike mend) parts part are found).0,
       ))
-      (λ room. mended planned unsound current ready in_time room)))))))
+      (λ room. mended (planned, unsound, shown) current ready in_time room))))))))
 
 pub ok_has_cause : {E : Type 0} (mend : Mend) (parts : List MendPart) → ArePartsOf mend parts
     → (result : Result Mending E) → IfOk result (λ mending. mending ≡ decide_mend mend parts)

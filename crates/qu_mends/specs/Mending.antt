@@ -54,14 +54,21 @@ unfoldable pub mend_row_current : Mend → List MendPart → Option Mending
 mend_row_current mend parts =
     option_map (λ part. Refuses (NotCurrent part.object (latest part.own))) (find (is_late mend) parts)
 
--- there is nothing to mend, or the sets have to show an object more
-abbrev pub unmended_by : ObjectId → Remedy → Option Refusal
-unmended_by target Nothing = Some (Sound target)
-unmended_by target (Unshown object) = Some (Needs object)
-unmended_by target _ = None
+-- there is nothing to mend
+abbrev pub sound_by : ObjectId → Remedy → Option Refusal
+sound_by target Nothing = Some (Sound target)
+sound_by target _ = None
 
 unfoldable pub mend_row_sound : Mend → Option Mending
-mend_row_sound mend = option_map (λ why. Refuses why) (unmended_by mend.target mend.remedy)
+mend_row_sound mend = option_map (λ why. Refuses why) (sound_by mend.target mend.remedy)
+
+-- the sets do not have a member of the group of what would be added
+abbrev pub unshown_by : Remedy → Option Refusal
+unshown_by (Unshown member) = Some (Needs member)
+unshown_by _ = None
+
+unfoldable pub mend_row_members : Mend → Option Mending
+mend_row_members mend = option_map (λ why. Refuses why) (unshown_by mend.remedy)
 
 -- the versions upon which the mend rests and that are missing
 abbrev pub missing_in : List MendPart → List (ObjectId × Stamp)
@@ -110,6 +117,7 @@ decide_mend mend parts = first_given (Refuses (TimeSpent mend.target)) (
     ∷ mend_row_held mend parts
     ∷ mend_row_current mend parts
     ∷ mend_row_sound mend
+    ∷ mend_row_members mend
     ∷ mend_row_version parts
     ∷ mend_row_time mend parts
     ∷ mend_row_full parts

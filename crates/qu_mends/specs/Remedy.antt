@@ -71,10 +71,13 @@ has_time sets member = nat_lt (latest_of (entries_of member.0 sets)).time LAST_T
 abbrev pub fresh_member : List SetOf → ObjectId × ℕ → ObjectId × ℕ
 fresh_member sets member = (member.0, (latest_of (entries_of member.0 sets)).time + 1)
 
--- the group of the candidates that are made on these objects together. Where one would have a time after the last there
--- is none: then nothing is made.
+-- nothing is made together
+abbrev pub none_made : List (ObjectId × ℕ)
+none_made = []
+
+-- the group of the candidates that are made on these objects together, where none would have a time after the last
 abbrev pub made_group : List SetOf → List (ObjectId × ℕ) → List (ObjectId × ℕ)
-made_group sets group = if list_all (has_time sets) group then map (fresh_member sets) group else []
+made_group sets group = if list_all (has_time sets) group then map (fresh_member sets) group else none_made
 
 -- a request to mend an object by this course, with what its culled sets say of it
 abbrev pub mend_by : List SetOf → Digest → ObjectId → ClientId → Course → Mend

@@ -7,7 +7,7 @@ ghost use Rattle.qu_mends.specs.Table.{has_no_room};
 ghost use Rattle.qu_plan.specs.Linking.{linking};
 ghost use Rattle.qu_mends.specs.Remedy.{mend_of, has_time, fresh_member, made_group, addition_by, missing_key, IsGrounded};
 ghost use Rattle.qu_mends.specs.Causes.{HasTime, ArePartsOf, HasCause};
-ghost use Rattle.qu_mends.specs.Mending.{is_held_part, is_overtaken, is_late, is_spent, missing_in, accepted_part, accepted_parts, mend_row_plan, mend_row_held, mend_row_current, mend_row_sound, mend_row_version, mend_row_time, mend_row_full, mend_row_mended, decide_mend};
+ghost use Rattle.qu_mends.specs.Mending.{is_held_part, is_overtaken, is_late, is_spent, missing_in, accepted_part, accepted_parts, mend_row_plan, mend_row_held, mend_row_current, mend_row_sound, mend_row_members, mend_row_version, mend_row_time, mend_row_full, mend_row_mended, decide_mend};
 
 use super::course::course_of;
 use super::{Accepted, Mending, Part};
@@ -109,6 +109,9 @@ impl Mend {
         if let Some(refused) = self.row_sound() {
             return Ok(refused);
         }
+        if let Some(refused) = self.row_members() {
+            return Ok(refused);
+        }
         if let Some(waits) = row_version(alloc, parts)? {
             return Ok(waits);
         }
@@ -189,14 +192,24 @@ impl Mend {
             || is_overtaken(part, self.addition(&part.latest, &part.remedy))
     }
 
-    /// Refuses where there is nothing to mend, or the sets have to show an object more.
+    /// Refuses where there is nothing to mend.
     #[tactic(auto, unfolding(crate::specs::Mending::mend_row_sound))]
     fn row_sound(&self) -> Option<Mending>
         ensures { result ≡ mend_row_sound self.now }
     {
         match self.remedy {
             Remedy::Nothing => Some(Mending::Refuses(Refusal::Sound(self.target))),
-            Remedy::Unshown(object) => Some(Mending::Refuses(Refusal::Needs(object))),
+            _ => None,
+        }
+    }
+
+    /// Refuses sets without a member of the group of what would be added.
+    #[tactic(auto, unfolding(crate::specs::Mending::mend_row_members))]
+    fn row_members(&self) -> Option<Mending>
+        ensures { result ≡ mend_row_members self.now }
+    {
+        match self.remedy {
+            Remedy::Unshown(member) => Some(Mending::Refuses(Refusal::Needs(member))),
             _ => None,
         }
     }

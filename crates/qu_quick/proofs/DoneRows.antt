@@ -1,4 +1,4 @@
--- A replica that is ready for an act performs it: rows 1 to 9 of its table decide nothing, and row 10 is Done.
+-- A replica that is ready for an act performs it: the rows before the last decide nothing, and the last is Done.
 use Rattle.std.proofs.Common.{◌≡◌, ℕ, ◌<◌, ◌≤◌, ◌&&◌, ◌||◌, Bool, true, false, cond, map, inl, List, [], ◌∷◌, length, Option, None, Some, IsTrue, refl, sym, ap, subst, ◌∙◌, arith}
 use Rattle.std.specs.Prelude.{nat_le, nat_lt, find, is_none, option_map, option_and_then}
 use Rattle.std.specs.List.{AllByRecursion, list_all, list_any}
@@ -29,11 +29,13 @@ use Rattle.qu_kept.proofs.StandingLaws.{fresh_where}
 use Rattle.qu_verdicts.specs.declared.verdict.Refusal.{Refusal}
 use Rattle.qu_verdicts.specs.declared.verdict.Refusal.TheVariants as refusal
 use Rattle.qu_mends.specs.declared.accepted.Accepted.{Accepted}
+use Rattle.qu_mends.specs.declared.seen.Seen.{Seen}
+use Rattle.qu_mends.specs.Mending.{is_held_in}
 use Rattle.qu_rows.specs.declared.decision.Decision.{Decision}
 use Rattle.qu_rows.specs.declared.decision.Decision.TheVariants.{Answers, Waits}
 use Rattle.qu_rows.specs.State.{ReplicaState, own_candidates, own_latest}
-use Rattle.qu_rows.specs.Rows.{Asked, asked_of, asked_at, refuse, shown_of, method_base, base_version, base_stamps, missing_of, class_told, fresh_stamp, fresh_group, fresh_stamps, fresh_versions, standing_in, done_again, is_held, repeated, row_unknown, row_thin, row_retry, row_current, row_method, row_version, row_kept, row_time, row_full, row_done, decide_act, decision_on}
-use Rattle.qu_fitting.proofs.CarriedEach.{AreBases, AreBefores, accepted_each, fresh_upon, fresh_candidates, versions_made, versions_each, done_each}
+use Rattle.qu_rows.specs.Rows.{Asked, asked_of, asked_at, refuse, shown_of, seen_of, seen_each, method_base, version_seen, base_version, base_versions, base_keys, missing_of, versions_under, class_told, fresh_stamp, fresh_keys, group_seen, standing_in, done_again, is_held, repeated, row_unknown, row_thin, row_retry, row_current, row_method, row_version, row_kept, row_time, row_full, row_done, decide_act, decision_on}
+use Rattle.qu_fitting.proofs.CarriedEach.{AreBases, AreBefores, accepted_each, fresh_upon, fresh_candidates, versions_made, group_each, versions_each, done_each}
 use Rattle.qu_mends.specs.Table.{first_given}
 use Rattle.qu_frames.specs.declared.frame.Body.TheVariants as body
 use Rattle.qu_verdicts.specs.declared.verdict.Verdict.TheVariants as verdict
@@ -82,12 +84,13 @@ some_part : {X : Type 0} (parts : List (ObjectId × X)) → IsTrue (are_parts pa
 some_part [] is = absurd (false≢true is)
 some_part (part ∷ later) is = omega arith
 
--- where a test fails on each object, it does not hold on all of some
-not_all : (test : ObjectId → Bool) (parts : List (ObjectId × Method)) → 1 ≤ length parts
-    → ((object : ObjectId) → Names parts object → test object ≡ false) → list_all test (objects_named parts) ≡ false
-not_all test [] some fails = absurd (omega (arith, some))
-not_all test (part ∷ later) some fails =
-    ap (λ (first : Bool). first && list_all test (objects_named later)) (fails part.0 (inl refl))
+-- where a test fails on what was seen of each object, it does not hold on all of some
+not_all : (test : Seen → Bool) (of : ObjectId → Seen) (parts : List (ObjectId × Method)) → 1 ≤ length parts
+    → ((object : ObjectId) → Names parts object → test (of object) ≡ false)
+    → list_all test (map of (objects_named parts)) ≡ false
+not_all test of [] some fails = absurd (omega (arith, some))
+not_all test of (part ∷ later) some fails =
+    ap (λ (first : Bool). first && list_all test (map of (objects_named later))) (fails part.0 (inl refl))
 
 last_row : (u t r c m v k i f d : Option Decision) (decision : Decision)
     → u ≡ None → t ≡ None → r ≡ None → c ≡ None → m ≡ None → v ≡ None → k ≡ None → i ≡ None → f ≡ None
@@ -108,6 +111,9 @@ module _ (state : ReplicaState) (client : ClientId) (number : ℕ) (sets : List 
   abbrev asked : Asked
   asked = asked_of client number sets (body.Act parts)
 
+  abbrev seen : List Seen
+  seen = seen_each state asked objects
+
   abbrev shown : ObjectId → List ObjectHistory
   shown object = shown_of asked object
 
@@ -116,6 +122,11 @@ module _ (state : ReplicaState) (client : ClientId) (number : ℕ) (sets : List 
 
   each : (P : ObjectId → Type 0) → ((object : ObjectId) → Names parts object → P object) → AllByRecursion P objects
   each P gives = all_named P parts gives
+
+  each_seen : (P : Seen → Type 0) → ((object : ObjectId) → Names parts object → P (seen_of state asked object))
+      → AllByRecursion P seen
+  each_seen P gives =
+      each_made (seen_of state asked) P objects (each (λ object. P (seen_of state asked object)) gives)
 
   based : (object : ObjectId) → Names parts object → IsBase state.keys.bounds (shown object) (bases object)
   based object names = is_base state.keys.bounds (shown object) (bases object) (ready.each object names).method
@@ -165,47 +176,49 @@ module _ (state : ReplicaState) (client : ClientId) (number : ℕ) (sets : List 
       absurd (false≢true (sym (is_below-self (fresh object).stamp)
       ∙ fresh_above state asked object (is_current object names) (fresh object) is))
 
-  held_none : (object : ObjectId) → Names parts object → is_held state asked (fresh_group asked objects) object ≡ false
+  held_none : (object : ObjectId) → Names parts object
+      → is_held state asked (group_seen asked seen) (seen_of state asked object) ≡ false
   unfolding is_held
   held_none object names =
-      ap (λ (found : Option Candidate). elim (option_map (fresh_upon asked (fresh_group asked objects) object) found) [
-        | None ↦ false
-        | Some made ↦ holds made (own_candidates state object)
-      ]) (ready.each object names).method
+      ap (λ (found : Option Candidate).
+      is_held_in (own_candidates state object) (option_map (fresh_upon asked (group_seen asked seen) object) found))
+      (ready.each object names).method
+      ∙ ap (λ (group : List (ObjectId × ℕ)).
+      holds (fresh_upon asked group object (bases object)) (own_candidates state object))
+      (group_each state asked objects)
       ∙ not_held object names (holds (fresh object) (own_candidates state object)) refl
 
-  retry : row_retry state asked parts objects ≡ None
+  retry : row_retry state asked parts seen ≡ None
   unfolding row_retry
   retry =
       ap (λ (test : Bool). cond test
-      (done_again (fresh_stamps state asked objects) (standing_in asked parts (fresh_versions state asked objects)))
-      None)
-      (not_all (is_held state asked (fresh_group asked objects)) parts (some_part parts fits) held_none)
+      (done_again (fresh_keys asked seen) (standing_in asked parts (versions_under state (fresh_keys asked seen)))) None)
+      (not_all (is_held state asked (group_seen asked seen)) (seen_of state asked) parts (some_part parts fits)
+      held_none)
 
-  current : row_current state asked objects ≡ None
+  current : row_current state seen ≡ None
   unfolding row_current
   current =
-      none_refused (λ (it : ObjectId). refusal.NotCurrent it (own_latest state it))
-      (λ (it : ObjectId). is_below (latest_of (shown_of asked it)) (own_latest state it)) objects
-      (each (λ it. is_below (latest_of (shown_of asked it)) (own_latest state it) ≡ false) is_current)
+      none_refused (λ (it : Seen). refusal.NotCurrent it.object (own_latest state it.object))
+      (λ (it : Seen). is_below it.latest (own_latest state it.object)) seen
+      (each_seen (λ it. is_below it.latest (own_latest state it.object) ≡ false) is_current)
 
-  of_method : row_method state asked objects ≡ None
+  of_method : row_method seen ≡ None
   unfolding row_method
   of_method =
-      none_refused (λ (it : ObjectId). refusal.NotMethod it (class_told state asked it))
-      (λ (it : ObjectId). is_none (method_base state asked it)) objects
-      (each (λ it. is_none (method_base state asked it) ≡ false)
+      none_refused (λ (it : Seen). refusal.NotMethod it.object (class_told it)) (λ (it : Seen). is_none it.method) seen
+      (each_seen (λ it. is_none it.method ≡ false)
       (λ it names. ap (λ (found : Option Candidate). is_none found) (ready.each it names).method))
 
-  has_version : row_version state asked objects ≡ None
+  has_version : row_version state seen ≡ None
   unfolding row_version
   has_version =
-      ap (λ (test : Bool). cond test (Some (Waits (missing_of state (base_stamps state asked objects)))) None)
-      (none_any (λ (it : ObjectId). is_none (base_version state asked it)) objects
-      (each (λ it. is_none (base_version state asked it) ≡ false)
+      ap (λ (test : Bool). cond test (Some (Waits (missing_of state (base_keys seen)))) None)
+      (none_any (λ (it : Seen). is_none (version_seen state it)) seen
+      (each_seen (λ it. is_none (version_seen state it) ≡ false)
       (λ it names. ap (λ (found : Option ObjState). is_none found) (version_found it names))))
 
-  kept : row_kept state asked parts objects ≡ None
+  kept : row_kept asked parts (base_versions state seen) ≡ None
   unfolding row_kept
   kept =
       let act : Digest = act_digest client number parts in
@@ -219,20 +232,20 @@ module _ (state : ReplicaState) (client : ClientId) (number : ℕ) (sets : List 
       ap (λ (states : List ObjState). repeated (standing_of client number act parts states))
       (versions_each state asked bases versions objects befores_are) ∙ ap repeated stands
 
-  time : row_time state asked objects ≡ None
+  time : row_time seen ≡ None
   unfolding row_time
   time =
-      none_refused refusal.TimeSpent (λ (it : ObjectId). nat_le LAST_TIME (latest_of (shown_of asked it)).time) objects
-      (each (λ it. nat_le LAST_TIME (latest_of (shown_of asked it)).time ≡ false)
+      none_refused (λ (it : Seen). refusal.TimeSpent it.object) (λ (it : Seen). nat_le LAST_TIME it.latest.time) seen
+      (each_seen (λ it. nat_le LAST_TIME it.latest.time ≡ false)
       (λ it names. above_not_below LAST_TIME (latest_of (shown it)).time
       (subst (λ (stamp : Stamp). stamp.time < LAST_TIME) (based it names).latest (ready.each it names).in_time)))
 
-  full : row_full state asked objects ≡ None
+  full : row_full state seen ≡ None
   unfolding row_full
   full =
-      none_refused refusal.HistoryFull (λ (it : ObjectId). nat_le HISTORY_LIMIT (length (own_candidates state it)))
-      objects
-      (each (λ it. nat_le HISTORY_LIMIT (length (own_candidates state it)) ≡ false)
+      none_refused (λ (it : Seen). refusal.HistoryFull it.object)
+      (λ (it : Seen). nat_le HISTORY_LIMIT (length (own_candidates state it.object))) seen
+      (each_seen (λ it. nat_le HISTORY_LIMIT (length (own_candidates state it.object)) ≡ false)
       (λ it names. above_not_below HISTORY_LIMIT (length (own_candidates state it)) (ready.each it names).room))
 
   -- ---- what is decided
@@ -241,7 +254,7 @@ module _ (state : ReplicaState) (client : ClientId) (number : ℕ) (sets : List 
   pub accepted_all : List Accepted
   accepted_all = accepted_each fresh (versions_made state asked bases versions parts) objects
 
-  done : row_done state asked parts objects
+  done : row_done asked parts seen (base_versions state seen)
       ≡ Some (Answers (done_verdict client number sets parts versions) accepted_all)
   unfolding accepted_all
   done =

@@ -1,6 +1,6 @@
 -- What all of a list have, and its first one, and what is made of them.
-use Rattle.std.proofs.Common.{◌≡◌, List, [], ◌∷◌, map, Option, Some, IsTrue, refl, ap, ◌∙◌, inl, inr}
-use Rattle.std.specs.List.{AllByRecursion, filter_map, cons_option}
+use Rattle.std.proofs.Common.{List, [], ◌∷◌, map, IsTrue, refl, inl, inr}
+use Rattle.std.specs.List.{AllByRecursion}
 use Rattle.std.proofs.lemmas.Bool.{false≢true}
 use Rattle.qu_base.specs.declared.party.ObjectId.{ObjectId}
 use Rattle.qu_objects.specs.declared.act.Method.{Method}
@@ -29,13 +29,6 @@ module _ {X Y : Type 0} (make : X → Y) where
       → HoldsOfFirst (λ item. P (make item)) items
   first_of_made P [] first = first
   first_of_made P (item ∷ later) first = first
-
-  pub found_each : (of : X → Option Y) (items : List X) → AllByRecursion (λ item. of item ≡ Some (make item)) items
-      → filter_map of items ≡ map make items
-  found_each of [] all = refl
-  found_each of (item ∷ later) all =
-      ap (λ (found : Option Y). cons_option found (filter_map of later)) all.0
-      ∙ ap (λ (rest : List Y). make item ∷ rest) (found_each of later all.1)
 
 -- what all have, and the first one too, gives a third of the first
 pub first_also : {X : Type 0} (P Q R : X → Type 0) (items : List X) → ((item : X) → P item → Q item → R item)

@@ -25,12 +25,13 @@ use Rattle.qu_verdicts.specs.declared.verdict.Refusal.TheVariants as refusal
 use Rattle.qu_verdicts.specs.declared.verdict.Verdict.{Verdict}
 use Rattle.qu_verdicts.specs.declared.verdict.Verdict.TheVariants as verdict
 use Rattle.qu_mends.specs.declared.accepted.Accepted.{Accepted}
+use Rattle.qu_mends.specs.declared.seen.Seen.{Seen}
 use Rattle.qu_rows.specs.declared.decision.Decision.{Decision}
 use Rattle.qu_rows.specs.declared.decision.Decision.TheVariants.{Answers, Waits}
 use Rattle.qu_mends.specs.declared.mending.Mending.{Mending}
 use Rattle.qu_mends.specs.declared.mending.Mending.TheVariants as mending
 use Rattle.qu_rows.specs.State.{ReplicaState, own_candidates, own_latest}
-use Rattle.qu_rows.specs.Rows.{asked_of, Asked, refuse, shown_of, method_base, base_version, row_unknown, row_thin, row_retry, row_current, row_method, row_version, row_kept, row_time, row_full, row_done, row_told, decide_act, decide_ask, decision_on, row_few, missing_of, evidence_for, waits_for, row_evidence, decision_by, mending_on, decide_repair}
+use Rattle.qu_rows.specs.Rows.{asked_of, Asked, refuse, shown_of, seen_each, method_base, base_version, base_versions, row_unknown, row_thin, row_retry, row_current, row_method, row_version, row_kept, row_time, row_full, row_done, row_told, decide_act, decide_ask, decision_on, row_few, missing_of, evidence_for, waits_for, row_evidence, decision_by, mending_on, decide_repair}
 use Rattle.qu_mends.specs.Table.{first_given}
 use Rattle.qu_versions.specs.Versions.{version_at}
 use Rattle.qu_fitting.proofs.CarriedEach.{with_stamps, AreBases, AreBefores, told_each}
@@ -70,63 +71,66 @@ module _ (P : Decision → Type 0) (refused : (why : Refusal) → P (refuse why)
   unfolding row_thin
   thin = refusing _ _
 
-  pub current : (objects : List ObjectId) → Gives P (row_current state asked objects)
+  current : (seen : List Seen) → Gives P (row_current state seen)
   unfolding row_current
-  current objects = refusing _ _
+  current seen = refusing _ _
 
-  pub method : (objects : List ObjectId) → Gives P (row_method state asked objects)
+  method : (seen : List Seen) → Gives P (row_method seen)
   unfolding row_method
-  method objects = refusing _ _
+  method seen = refusing _ _
 
-  pub version : (objects : List ObjectId) → Gives P (row_version state asked objects)
+  version : (seen : List Seen) → Gives P (row_version state seen)
   unfolding row_version
-  version objects = waiting _ _
+  version seen = waiting _ _
 
-  time : (objects : List ObjectId) → Gives P (row_time state asked objects)
+  time : (seen : List Seen) → Gives P (row_time seen)
   unfolding row_time
-  time objects = refusing _ _
+  time seen = refusing _ _
 
-  full : (objects : List ObjectId) → Gives P (row_full state asked objects)
+  full : (seen : List Seen) → Gives P (row_full state seen)
   unfolding row_full
-  full objects = refusing _ _
+  full seen = refusing _ _
 
   no_row : P (first_given (Waits []) [])
   unfolding first_given
   no_row = waits []
 
-  pub act_cases : (parts : List (ObjectId × Method)) (objects : List ObjectId)
-      → Gives P (row_retry state asked parts objects)
-      → (row_method state asked objects ≡ None → row_version state asked objects ≡ None
-      → Gives P (row_kept state asked parts objects))
-      → (row_current state asked objects ≡ None → row_method state asked objects ≡ None
-      → row_version state asked objects ≡ None → row_kept state asked parts objects ≡ None
-      → Gives P (row_done state asked parts objects))
-      → P (decide_act state asked parts objects)
-  unfolding decide_act
-  act_cases parts objects retry kept done =
-      past P _ _ unknown (λ _.
-      past P _ _ thin (λ _.
-      past P _ _ retry (λ _.
-      past P _ _ (current objects) (λ is_current.
-      past P _ _ (method objects) (λ is_method.
-      past P _ _ (version objects) (λ is_version.
-      past P _ _ (kept is_method is_version) (λ is_new.
-      past P _ _ (time objects) (λ _.
-      past P _ _ (full objects) (λ _.
-      past P _ _ (done is_current is_method is_version is_new) (λ _. no_row))))))))))
+  module _ (objects : List ObjectId) where
+    abbrev seen : List Seen
+    seen = seen_each state asked objects
 
-  ask_cases : (parts : List (ObjectId × Ask)) (objects : List ObjectId)
-      → (row_current state asked objects ≡ None → row_method state asked objects ≡ None
-      → row_version state asked objects ≡ None → Gives P (row_told state asked parts objects))
-      → P (decide_ask state asked parts objects)
-  unfolding decide_ask
-  ask_cases parts objects told =
-      past P _ _ unknown (λ _.
-      past P _ _ thin (λ _.
-      past P _ _ (current objects) (λ is_current.
-      past P _ _ (method objects) (λ is_method.
-      past P _ _ (version objects) (λ is_version.
-      past P _ _ (told is_current is_method is_version) (λ _. no_row))))))
+    pub act_cases : (parts : List (ObjectId × Method)) → Gives P (row_retry state asked parts seen)
+        → (row_method seen ≡ None → row_version state seen ≡ None
+        → Gives P (row_kept asked parts (base_versions state seen)))
+        → (row_current state seen ≡ None → row_method seen ≡ None → row_version state seen ≡ None
+        → row_kept asked parts (base_versions state seen) ≡ None
+        → Gives P (row_done asked parts seen (base_versions state seen)))
+        → P (decide_act state asked parts objects)
+    unfolding decide_act
+    act_cases parts retry kept done =
+        past P _ _ unknown (λ _.
+        past P _ _ thin (λ _.
+        past P _ _ retry (λ _.
+        past P _ _ (current seen) (λ is_current.
+        past P _ _ (method seen) (λ is_method.
+        past P _ _ (version seen) (λ is_version.
+        past P _ _ (kept is_method is_version) (λ is_new.
+        past P _ _ (time seen) (λ _.
+        past P _ _ (full seen) (λ _.
+        past P _ _ (done is_current is_method is_version is_new) (λ _. no_row))))))))))
+
+    ask_cases : (parts : List (ObjectId × Ask))
+        → (row_current state seen ≡ None → row_method seen ≡ None → row_version state seen ≡ None
+        → Gives P (row_told parts seen (base_versions state seen)))
+        → P (decide_ask state asked parts objects)
+    unfolding decide_ask
+    ask_cases parts told =
+        past P _ _ unknown (λ _.
+        past P _ _ thin (λ _.
+        past P _ _ (current seen) (λ is_current.
+        past P _ _ (method seen) (λ is_method.
+        past P _ _ (version seen) (λ is_version.
+        past P _ _ (told is_current is_method is_version) (λ _. no_row))))))
 
   few : (target : ObjectId) → Gives P (row_few state asked target)
   unfolding row_few
@@ -216,9 +220,11 @@ module _ (state : ReplicaState) (asked : Asked) where
       )
 
 told_tells : (state : ReplicaState) (asked : Asked) (query : List (ObjectId × Ask))
-    → row_current state asked (objects_named query) ≡ None → row_method state asked (objects_named query) ≡ None
-    → row_version state asked (objects_named query) ≡ None
-    → Gives (QueryTells state asked.sets query) (row_told state asked query (objects_named query))
+    → row_current state (seen_each state asked (objects_named query)) ≡ None
+    → row_method (seen_each state asked (objects_named query)) ≡ None
+    → row_version state (seen_each state asked (objects_named query)) ≡ None
+    → Gives (QueryTells state asked.sets query) (row_told query (seen_each state asked (objects_named query))
+    (base_versions state (seen_each state asked (objects_named query))))
 told_tells state asked query is_current is_method is_version decision given =
     let objects : List ObjectId = objects_named query in
     let bases : AreBases state asked (base_of state asked) (before_of state asked) objects =
@@ -238,7 +244,7 @@ told_tells state asked query is_current is_method is_version decision given =
 query_tells : (state : ReplicaState) (asked : Asked) (query : List (ObjectId × Ask))
     → QueryTells state asked.sets query (decision_on state asked (body.Ask query))
 query_tells state asked query =
-    ask_cases (QueryTells state asked.sets query) (λ why. tt) (λ missing. tt) state asked query (objects_named query)
+    ask_cases (QueryTells state asked.sets query) (λ why. tt) (λ missing. tt) state asked (objects_named query) query
     (told_tells state asked query)
 
 module _ (state : ReplicaState) (client : ClientId) (number : ℕ) (sets : List SetOf) (query : List (ObjectId × Ask))

@@ -1,7 +1,7 @@
 -- What a replica that tells Done again says is true of it: what the act would make is held.
 use Rattle.std.proofs.Common.{◌≡◌, ℕ, Bool, true, false, cond, List, [], ◌∷◌, length, map, Option, None, Some, IsTrue, refl, sym, subst, ap, ◌∙◌}
 use Rattle.std.specs.Prelude.{option_map, unwrap_or}
-use Rattle.std.specs.List.{AllByRecursion, list_all}
+use Rattle.std.specs.List.{AllByRecursion, list_all, cons_option}
 use Rattle.std.proofs.lemmas.Bool.{and_parts, false≢true}
 use Rattle.std.proofs.lemmas.List.{length-map}
 use Rattle.std.proofs.lemmas.List.Elements.{All-from_recursion}
@@ -26,17 +26,18 @@ use Rattle.qu_verdicts.specs.declared.verdict.Verdict.TheVariants as verdict
 use Rattle.qu_versions.specs.declared.stored.Stored.{Stored}
 use Rattle.qu_versions.specs.Versions.{version_at}
 use Rattle.qu_mends.specs.declared.accepted.Accepted.{Accepted}
+use Rattle.qu_mends.specs.declared.seen.Seen.{Seen}
+use Rattle.qu_mends.specs.Mending.{is_held_in}
 use Rattle.qu_rows.specs.declared.decision.Decision.{Decision}
 use Rattle.qu_rows.specs.declared.decision.Decision.TheVariants.{Answers, Waits}
 use Rattle.qu_rows.specs.Allowed.{MayAcceptAll}
 use Rattle.qu_rows.specs.State.{ReplicaState, own_candidates}
-use Rattle.qu_rows.specs.Rows.{Asked, method_base, fresh_stamp, fresh_group, fresh_stamps, fresh_versions, is_held, standing_in, done_again, row_retry}
-use Rattle.qu_rows.proofs.Held.{is_held_by}
+use Rattle.qu_rows.specs.Rows.{Asked, seen_of, seen_each, method_base, fresh_stamp, fresh_keys, group_seen, versions_under, is_held, standing_in, done_again, row_retry}
 use Rattle.qu_fitting.specs.Holding.{stored_all, accept_all}
-use Rattle.qu_fitting.proofs.CarriedEach.{fresh_upon, with_stamps, AreBases, fresh_each}
+use Rattle.qu_fitting.proofs.CarriedEach.{fresh_upon, with_stamps, fresh_each}
 use Rattle.qu_fitting.proofs.PassedRows.{base_of, before_of}
 use Rattle.qu_replies.specs.Replies.{Keeps, HoldsOfFirst, HasDone, TellsDone, TellsAlready}
-use Rattle.qu_replies.proofs.EachOf.{each_made, each_of_made, first_made, first_of_made, found_each, first_also}
+use Rattle.qu_replies.proofs.EachOf.{each_made, each_of_made, first_made, first_of_made, first_also}
 use Rattle.qu_replies.proofs.KeptActs.{kept_where}
 use Rattle.qu_replies.proofs.QueryReplies.{Gives, told_objects}
 
@@ -97,12 +98,18 @@ module _ (state : ReplicaState) (asked : Asked) (parts : List (ObjectId × Metho
   abbrev objects : List ObjectId
   objects = objects_named parts
 
+  abbrev seen : List Seen
+  seen = seen_each state asked objects
+
+  abbrev keys : List (ObjectId × Stamp)
+  keys = fresh_keys asked seen
+
   -- the candidate that the act would make of the object
   abbrev fresh_on : ObjectId → Candidate
-  fresh_on object = fresh_upon asked (fresh_group asked objects) object (base_of state asked object)
+  fresh_on object = fresh_upon asked (group_seen asked seen) object (base_of state asked object)
 
-  abbrev is_held_on : ObjectId → Bool
-  is_held_on object = is_held state asked (fresh_group asked objects) object
+  abbrev is_held_on : Seen → Bool
+  is_held_on one = is_held state asked (group_seen asked seen) one
 
   pub many : (make : ObjectId → ObjState) → length (map make objects) ≡ length parts
   many make = length-map objects make ∙ length-map parts (λ part. part.0)
@@ -123,22 +130,17 @@ module _ (state : ReplicaState) (asked : Asked) (parts : List (ObjectId × Metho
       × (holds (fresh_on object) (own_candidates state object) ≡ true)
 
   held_by : (object : ObjectId) (found : Option Candidate)
-      → is_held_by state object (option_map (fresh_upon asked (fresh_group asked objects) object) found) ≡ true
+      → is_held_in (own_candidates state object) (option_map (fresh_upon asked (group_seen asked seen) object) found)
+      ≡ true
       → (found ≡ Some (unwrap_or found opening))
-      × (holds (fresh_upon asked (fresh_group asked objects) object (unwrap_or found opening))
+      × (holds (fresh_upon asked (group_seen asked seen) object (unwrap_or found opening))
       (own_candidates state object) ≡ true)
   held_by object None holding = absurd (false≢true holding)
   held_by object (Some base) holding = (refl, holding)
 
-  held_so : (object : ObjectId) → is_held_on object ≡ true → IsHeld object
+  held_so : (object : ObjectId) → is_held_on (seen_of state asked object) ≡ true → IsHeld object
   unfolding is_held
   held_so object holding = held_by object (method_base state asked object) holding
-
-  held_each : (some : List ObjectId) → list_all is_held_on some ≡ true → AllByRecursion IsHeld some
-  held_each [] all = tt
-  held_each (object ∷ later) all =
-      let both = and_parts (is_held_on object) (list_all is_held_on later) all in
-      (held_so object both.0, held_each later both.1)
 
   -- the version of a candidate that is held
   abbrev version_held : HasVersions state → (object : ObjectId) → IsHeld object
@@ -172,34 +174,34 @@ module _ (state : ReplicaState) (asked : Asked) (parts : List (ObjectId × Metho
     keeps = keeps;
   }
 
-  module _ (has : HasVersions state) (all : list_all is_held_on objects ≡ true) where
+  module _ (has : HasVersions state) (all : list_all is_held_on seen ≡ true) where
     abbrev IsThere : ObjectId → Type 0
     IsThere object = IsHeld object × IsStored object
 
     there : AllByRecursion IsThere objects
-    there = by objects (held_each objects all)
+    there = by objects all
       where
-        by : (some : List ObjectId) → AllByRecursion IsHeld some → AllByRecursion IsThere some
-        by [] held = tt
-        by (object ∷ later) held = ((held.0, stored_so has object held.0), by later held.1)
+        by : (some : List ObjectId) → list_all is_held_on (seen_each state asked some) ≡ true
+            → AllByRecursion IsThere some
+        by [] all = tt
+        by (object ∷ later) all =
+            let both = and_parts _ (list_all is_held_on (seen_each state asked later)) all in
+            let held : IsHeld object = held_so object both.0 in
+            ((held, stored_so has object held), by later both.1)
 
-    versions_are : fresh_versions state asked objects ≡ map version_then objects
-    versions_are =
-        found_each version_then (λ object. version_at object (fresh_stamp asked object) state.versions) objects
-        (by objects there)
-      where
-        by : (some : List ObjectId) → AllByRecursion IsThere some → AllByRecursion IsStored some
-        by [] held = tt
-        by (object ∷ later) held = ((held.0).1, by later held.1)
+    keys_are : keys ≡ with_stamps (fresh_stamp asked) objects
+    keys_are = fresh_each state asked objects
 
-    stamps_are : fresh_stamps state asked objects ≡ with_stamps (fresh_stamp asked) objects
-    stamps_are =
-        fresh_each state asked (base_of state asked) (before_of state asked) objects (by objects there)
+    versions_are : versions_under state (with_stamps (fresh_stamp asked) objects) ≡ map version_then objects
+    versions_are = by objects there
       where
         by : (some : List ObjectId) → AllByRecursion IsThere some
-            → AreBases state asked (base_of state asked) (before_of state asked) some
-        by [] held = tt
-        by (object ∷ later) held = (((held.0).0).0, by later held.1)
+            → versions_under state (with_stamps (fresh_stamp asked) some) ≡ map version_then some
+        by [] held = refl
+        by (object ∷ later) held =
+            ap (λ (found : Option ObjState). cons_option found
+            (versions_under state (with_stamps (fresh_stamp asked) later))) (held.0).1
+            ∙ ap (λ (rest : List ObjState). version_then object ∷ rest) (by later held.1)
 
     retried : (answer : Answer)
         → standing_of asked.client asked.number act parts (map version_then objects) ≡ Already answer
@@ -234,39 +236,36 @@ module _ (state : ReplicaState) (asked : Asked) (parts : List (ObjectId × Metho
 
     -- whatever the row of retries gives
     retry_done : (stamps : List (ObjectId × Stamp)) (answer : Answer) (accepted : List Accepted)
-        → done_again (fresh_stamps state asked objects)
-        (standing_in asked parts (fresh_versions state asked objects))
+        → done_again keys (standing_in asked parts (versions_under state keys))
         ≡ Some (Answers (verdict.Done stamps answer) accepted)
         → TellsDone (accept_all state accepted) asked.client asked.number act parts stamps answer
     retry_done stamps answer accepted given =
         again_done (standing_of asked.client asked.number act parts (map version_then objects)) refl stamps answer
         accepted
-        (sym (ap (λ (it : List (ObjectId × Stamp)).
-        done_again it (standing_in asked parts (fresh_versions state asked objects))) stamps_are
+        (sym (ap (λ (it : List (ObjectId × Stamp)). done_again it (standing_in asked parts (versions_under state it)))
+        keys_are
         ∙ ap (λ (versions : List ObjState).
         done_again (with_stamps (fresh_stamp asked) objects) (standing_in asked parts versions)) versions_are
         ∙ ap (done_again (with_stamps (fresh_stamp asked) objects)) (stands_so (map version_then objects)))
         ∙ given)
 
   -- the row of retries gives Done alone
-  again_tells : (all : list_all is_held_on objects ≡ true) (standing : Standing)
-      → standing_in asked parts (fresh_versions state asked objects) ≡ standing → (decision : Decision)
-      → done_again (fresh_stamps state asked objects) standing ≡ Some decision → ActTells state asked act parts decision
+  again_tells : (all : list_all is_held_on seen ≡ true) (standing : Standing)
+      → standing_in asked parts (versions_under state keys) ≡ standing → (decision : Decision)
+      → done_again keys standing ≡ Some decision → ActTells state asked act parts decision
   again_tells all Fresh stands decision given = absurd (none-some decision given)
   again_tells all (Spent on number) stands decision given = absurd (none-some decision given)
   again_tells all (Already answer) stands decision given =
       subst (ActTells state asked act parts) (same_Some _ decision given)
-      (λ has may adds. retry_done has all (fresh_stamps state asked objects) answer []
-      (ap (done_again (fresh_stamps state asked objects)) stands))
+      (λ has may adds. retry_done has all keys answer [] (ap (done_again keys) stands))
 
-  pub retry_tells : Gives (ActTells state asked act parts) (row_retry state asked parts objects)
+  pub retry_tells : Gives (ActTells state asked act parts) (row_retry state asked parts seen)
   unfolding row_retry
-  retry_tells = by (list_all is_held_on objects) refl
+  retry_tells = by (list_all is_held_on seen) refl
     where
-      by : (test : Bool) → list_all is_held_on objects ≡ test
+      by : (test : Bool) → list_all is_held_on seen ≡ test
           → Gives (ActTells state asked act parts) (cond test
-          (done_again (fresh_stamps state asked objects)
-          (standing_in asked parts (fresh_versions state asked objects))) None)
+          (done_again keys (standing_in asked parts (versions_under state keys))) None)
       by false all decision given = absurd (none-some decision given)
       by true all decision given =
-          again_tells all (standing_in asked parts (fresh_versions state asked objects)) refl decision given
+          again_tells all (standing_in asked parts (versions_under state keys)) refl decision given

@@ -33,11 +33,12 @@ use Rattle.qu_versions.specs.declared.stored.Stored.{Stored}
 use Rattle.qu_versions.specs.Versions.{version_at}
 use Rattle.qu_versions.proofs.Lookup.{version_at-append, append_grows}
 use Rattle.qu_mends.specs.declared.accepted.Accepted.{Accepted}
+use Rattle.qu_mends.specs.declared.seen.Seen.{Seen}
 use Rattle.qu_rows.specs.declared.decision.Decision.{Decision}
 use Rattle.qu_rows.specs.declared.decision.Decision.TheVariants.{Answers, Waits}
 use Rattle.qu_rows.specs.Allowed.{MayAcceptAll, MayDecide}
 use Rattle.qu_rows.specs.State.{ReplicaState, own_candidates}
-use Rattle.qu_rows.specs.Rows.{asked_of, Asked, method_base, base_version, fresh_stamp, standing_in, repeated, row_unknown, row_current, row_method, row_version, row_kept, row_done, decide_act, decision_on}
+use Rattle.qu_rows.specs.Rows.{asked_of, Asked, seen_each, method_base, base_version, base_versions, fresh_stamp, standing_in, repeated, row_unknown, row_current, row_method, row_version, row_kept, row_done, decide_act, decision_on}
 use Rattle.qu_mends.specs.Table.{first_given}
 use Rattle.qu_rows.proofs.Allowed.{decision_on-may}
 use Rattle.qu_fitting.specs.Holding.{accept_all}
@@ -61,78 +62,80 @@ module _ (state : ReplicaState) (asked : Asked) (parts : List (ObjectId × Metho
   abbrev objects : List ObjectId
   objects = objects_named parts
 
-  module _ (is_method : row_method state asked objects ≡ None) (is_version : row_version state asked objects ≡ None)
-    where
-      bases : AreBases state asked (base_of state asked) (before_of state asked) objects
-      bases = passed_method state asked objects is_method
+  abbrev seen : List Seen
+  seen = seen_each state asked objects
 
-      befores : AreBefores state asked (base_of state asked) (before_of state asked) objects
-      befores = passed_version state asked objects is_version
+  module _ (is_method : row_method seen ≡ None) (is_version : row_version state seen ≡ None) where
+    bases : AreBases state asked (base_of state asked) (before_of state asked) objects
+    bases = passed_method state asked objects is_method
 
-      abbrev IsBased : ObjectId → Type 0
-      IsBased object = (method_base state asked object ≡ Some (base_of state asked object))
-          × (base_version state asked object ≡ Some (before_of state asked object))
+    befores : AreBefores state asked (base_of state asked) (before_of state asked) objects
+    befores = passed_version state asked objects is_version
 
-      based : AllByRecursion IsBased objects
-      based = all_both (λ object. method_base state asked object ≡ Some (base_of state asked object))
-          (λ object. base_version state asked object ≡ Some (before_of state asked object)) IsBased
-          (λ object base version. (base, version)) objects bases befores
+    abbrev IsBased : ObjectId → Type 0
+    IsBased object = (method_base state asked object ≡ Some (base_of state asked object))
+        × (base_version state asked object ≡ Some (before_of state asked object))
 
-      kept_on : (object : ObjectId) (kept : Answer) → IsBased object
-          → Keeps asked.client asked.number act kept (before_of state asked object)
-          → HasKept state asked.client asked.number act asked.sets kept object
-      kept_on object kept is keeps = record {
-        base = base_of state asked object;
-        method = is.0;
-        version = before_of state asked object;
-        of_base = version_of_base state asked object (base_of state asked object) (before_of state asked object) is.0
-            is.1;
-        keeps = keeps;
-      }
+    based : AllByRecursion IsBased objects
+    based = all_both (λ object. method_base state asked object ≡ Some (base_of state asked object))
+        (λ object. base_version state asked object ≡ Some (before_of state asked object)) IsBased
+        (λ object base version. (base, version)) objects bases befores
 
-      told_already : (answer : Answer)
-          → standing_of asked.client asked.number act parts (map (before_of state asked) objects) ≡ Already answer
-          → TellsAlready state asked.client asked.number act asked.sets parts answer
-      told_already answer stands =
-          let keeps = kept_where asked.client asked.number act parts (map (before_of state asked) objects) answer
-          in_order (many state asked parts in_order act is_act (before_of state asked)) stands in
-          let Keeps-some : ObjState → Type 0 =
-          λ version. (kept : Answer) × Keeps asked.client asked.number act kept version in
-          let Kept : ObjectId → Type 0 =
-          λ object. (kept : Answer) × HasKept state asked.client asked.number act asked.sets kept object in
-          let object_of : ObjectId × Method → ObjectId = λ part. part.0 in
-          record {
-            each = All-from_recursion (λ (part : ObjectId × Method). Kept part.0) parts
-                (each_of_made object_of Kept parts
-                (all_both IsBased (λ object. Keeps-some (before_of state asked object)) Kept
-                (λ object is kept. (kept.0, kept_on object kept.0 is kept.1)) objects based
-                (each_of_made (before_of state asked) Keeps-some objects keeps.0)));
-            first = first_of_made object_of (HasKept state asked.client asked.number act asked.sets answer) parts
-                (first_also IsBased
-                (λ object. Keeps asked.client asked.number act answer (before_of state asked object))
-                (HasKept state asked.client asked.number act asked.sets answer) objects
-                (λ object is kept. kept_on object answer is kept) based
-                (first_of_made (before_of state asked) (Keeps asked.client asked.number act answer) objects keeps.1));
-          }
+    kept_on : (object : ObjectId) (kept : Answer) → IsBased object
+        → Keeps asked.client asked.number act kept (before_of state asked object)
+        → HasKept state asked.client asked.number act asked.sets kept object
+    kept_on object kept is keeps = record {
+      base = base_of state asked object;
+      method = is.0;
+      version = before_of state asked object;
+      of_base = version_of_base state asked object (base_of state asked object) (before_of state asked object) is.0
+          is.1;
+      keeps = keeps;
+    }
 
-      repeated_tells : (standing : Standing)
-          → standing_of asked.client asked.number act parts (map (before_of state asked) objects) ≡ standing
-          → Gives (ActTells state asked act parts) (repeated standing)
-      repeated_tells Fresh stands decision given = absurd (none-some decision given)
-      repeated_tells (Spent on number) stands decision given =
-          subst (ActTells state asked act parts) (same_Some _ decision given) tt
-      repeated_tells (Already answer) stands decision given =
-          subst (ActTells state asked act parts) (same_Some _ decision given) (told_already answer stands)
+    told_already : (answer : Answer)
+        → standing_of asked.client asked.number act parts (map (before_of state asked) objects) ≡ Already answer
+        → TellsAlready state asked.client asked.number act asked.sets parts answer
+    told_already answer stands =
+        let keeps = kept_where asked.client asked.number act parts (map (before_of state asked) objects) answer
+        in_order (many state asked parts in_order act is_act (before_of state asked)) stands in
+        let Keeps-some : ObjState → Type 0 =
+        λ version. (kept : Answer) × Keeps asked.client asked.number act kept version in
+        let Kept : ObjectId → Type 0 =
+        λ object. (kept : Answer) × HasKept state asked.client asked.number act asked.sets kept object in
+        let object_of : ObjectId × Method → ObjectId = λ part. part.0 in
+        record {
+          each = All-from_recursion (λ (part : ObjectId × Method). Kept part.0) parts
+              (each_of_made object_of Kept parts
+              (all_both IsBased (λ object. Keeps-some (before_of state asked object)) Kept
+              (λ object is kept. (kept.0, kept_on object kept.0 is kept.1)) objects based
+              (each_of_made (before_of state asked) Keeps-some objects keeps.0)));
+          first = first_of_made object_of (HasKept state asked.client asked.number act asked.sets answer) parts
+              (first_also IsBased
+              (λ object. Keeps asked.client asked.number act answer (before_of state asked object))
+              (HasKept state asked.client asked.number act asked.sets answer) objects
+              (λ object is kept. kept_on object answer is kept) based
+              (first_of_made (before_of state asked) (Keeps asked.client asked.number act answer) objects keeps.1));
+        }
 
-      already_tells : Gives (ActTells state asked act parts) (row_kept state asked parts objects)
-      unfolding row_kept
-      already_tells decision given =
-          repeated_tells (standing_of asked.client asked.number act parts (map (before_of state asked) objects)) refl
-          decision
-          (sym (ap (λ (versions : List ObjState). repeated (standing_in asked parts versions))
-          (versions_each state asked (base_of state asked) (before_of state asked) objects befores)
-          ∙ ap repeated (stands_so state asked parts in_order act is_act (map (before_of state asked) objects)))
-          ∙ given)
+    repeated_tells : (standing : Standing)
+        → standing_of asked.client asked.number act parts (map (before_of state asked) objects) ≡ standing
+        → Gives (ActTells state asked act parts) (repeated standing)
+    repeated_tells Fresh stands decision given = absurd (none-some decision given)
+    repeated_tells (Spent on number) stands decision given =
+        subst (ActTells state asked act parts) (same_Some _ decision given) tt
+    repeated_tells (Already answer) stands decision given =
+        subst (ActTells state asked act parts) (same_Some _ decision given) (told_already answer stands)
+
+    already_tells : Gives (ActTells state asked act parts) (row_kept asked parts (base_versions state seen))
+    unfolding row_kept
+    already_tells decision given =
+        repeated_tells (standing_of asked.client asked.number act parts (map (before_of state asked) objects)) refl
+        decision
+        (sym (ap (λ (versions : List ObjState). repeated (standing_in asked parts versions))
+        (versions_each state asked (base_of state asked) (before_of state asked) objects befores)
+        ∙ ap repeated (stands_so state asked parts in_order act is_act (map (before_of state asked) objects)))
+        ∙ given)
 
 -- ---- an act that is performed
 
@@ -242,10 +245,13 @@ module _ (state : ReplicaState) (asked : Asked) (parts : List (ObjectId × Metho
 
 done_tells : (state : ReplicaState) (asked : Asked) (parts : List (ObjectId × Method))
     → IsTrue (are_parts parts) → asked.act ≡ Some (act_digest asked.client asked.number parts)
-    → row_current state asked (objects_named parts) ≡ None → row_method state asked (objects_named parts) ≡ None
-    → row_version state asked (objects_named parts) ≡ None → row_kept state asked parts (objects_named parts) ≡ None
+    → row_current state (seen_each state asked (objects_named parts)) ≡ None
+    → row_method (seen_each state asked (objects_named parts)) ≡ None
+    → row_version state (seen_each state asked (objects_named parts)) ≡ None
+    → row_kept asked parts (base_versions state (seen_each state asked (objects_named parts))) ≡ None
     → Gives (ActTells state asked (act_digest asked.client asked.number parts) parts)
-    (row_done state asked parts (objects_named parts))
+    (row_done asked parts (seen_each state asked (objects_named parts))
+    (base_versions state (seen_each state asked (objects_named parts))))
 done_tells state asked parts in_order is_act is_current is_method is_version is_new decision given =
     let act : Digest = act_digest asked.client asked.number parts in
     let made : MakesAll state asked parts (accepted_each (fresh state asked parts) (afters state asked parts)
@@ -263,7 +269,7 @@ act_tells : (state : ReplicaState) (asked : Asked) (parts : List (ObjectId × Me
     (decision_on state asked (body.Act parts))
 act_tells state asked parts in_order is_act =
     let act : Digest = act_digest asked.client asked.number parts in
-    act_cases (ActTells state asked act parts) (λ why. tt) (λ missing. tt) state asked parts (objects_named parts)
+    act_cases (ActTells state asked act parts) (λ why. tt) (λ missing. tt) state asked (objects_named parts) parts
     (retry_tells state asked parts in_order act is_act)
     (already_tells state asked parts in_order act is_act)
     (done_tells state asked parts in_order is_act)

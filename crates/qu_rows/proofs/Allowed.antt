@@ -1,7 +1,7 @@
 -- What a replica decides upon a request, it may accept.
-use Rattle.std.proofs.Common.{◌≡◌, ℕ, ◌+◌, ◌<◌, ◌≤◌, Bool, true, false, cond, IsTrue, List, [], ◌∷◌, ◌++◌, length, Option, None, Some, inl, inr, refl, sym, subst, ap, ◌∙◌, arith}
+use Rattle.std.proofs.Common.{◌≡◌, ℕ, ◌+◌, ◌<◌, ◌≤◌, Bool, true, false, cond, IsTrue, List, [], ◌∷◌, length, Option, None, Some, inl, inr, refl, sym, subst, ap, ◌∙◌, arith}
 use Rattle.std.specs.Prelude.{◌==◌, nat_le, find, option_map}
-use Rattle.std.specs.List.{AllByRecursion}
+use Rattle.std.specs.List.{AllByRecursion, cons_option}
 use Rattle.std.proofs.lemmas.Bool.{false≢true, leb-false, ltb-false, cases_Bool, cases_lt, eqb-true}
 use Rattle.std.proofs.lemmas.Option.{none-some, same_Some}
 use Rattle.qu_base.specs.declared.party.ObjectId.{ObjectId}
@@ -31,13 +31,13 @@ use Rattle.qu_verdicts.specs.declared.verdict.Verdict.TheVariants.{Done}
 use Rattle.qu_verdicts.specs.declared.verdict.Verdict.TheVariants as verdict
 use Rattle.qu_rows.proofs.MendedObjects.{mending_may}
 use Rattle.qu_mends.specs.declared.accepted.Accepted.{Accepted}
+use Rattle.qu_mends.specs.declared.seen.Seen.{Seen}
 use Rattle.qu_rows.specs.declared.decision.Decision.{Decision}
 use Rattle.qu_rows.specs.declared.decision.Decision.TheVariants.{Answers, Waits}
 use Rattle.qu_rows.specs.State.{ReplicaState, own_candidates, own_latest}
-use Rattle.qu_rows.specs.Rows.{Asked, refuse, refuse_first, objects_of, method_base, shown_of, fresh_stamp, fresh_group, fresh_act, accepted_by, done_again, repeated, row_unknown, row_thin, row_retry, row_current, row_method, row_version, row_kept, row_time, row_full, row_done, row_told, row_few, missing_of, evidence_for, waits_for, row_evidence, mending_on, decision_by, decide_act, decide_ask, decide_repair, decision_on}
+use Rattle.qu_rows.specs.Rows.{Asked, refuse, refuse_first, objects_of, seen_of, seen_each, method_base, shown_of, stamp_after, fresh_stamp, fresh_candidate, group_seen, accepted_by, done_again, repeated, row_unknown, row_thin, row_retry, row_current, row_method, row_version, row_kept, row_time, row_full, row_done, row_told, row_few, missing_of, evidence_for, waits_for, row_evidence, mending_on, decision_by, decide_act, decide_ask, decide_repair, decision_on}
 use Rattle.qu_mends.specs.Table.{first_given, has_no_room}
 use Rattle.qu_rows.specs.Allowed.{MayAccept, MayAcceptAll, MayDecide, has_parts}
-use Rattle.qu_rows.proofs.Accepting.{accepted_of, accepted_cons, accepted_none, accepted_empty}
 
 -- a row that may be carried out, so that what follows it is to be shown
 abbrev MayGive : ReplicaState → Option Decision → Type 0
@@ -64,23 +64,21 @@ thin : (state : ReplicaState) (asked : Asked) → MayGive state (row_thin state 
 unfolding row_thin
 thin state asked = refusing state _ _
 
-current : (state : ReplicaState) (asked : Asked) (objects : List ObjectId)
-    → MayGive state (row_current state asked objects)
+current : (state : ReplicaState) (seen : List Seen) → MayGive state (row_current state seen)
 unfolding row_current
-current state asked objects = refusing state _ _
+current state seen = refusing state _ _
 
-method : (state : ReplicaState) (asked : Asked) (objects : List ObjectId)
-    → MayGive state (row_method state asked objects)
+method : (state : ReplicaState) (seen : List Seen) → MayGive state (row_method seen)
 unfolding row_method
-method state asked objects = refusing state _ _
+method state seen = refusing state _ _
 
-time : (state : ReplicaState) (asked : Asked) (objects : List ObjectId) → MayGive state (row_time state asked objects)
+time : (state : ReplicaState) (seen : List Seen) → MayGive state (row_time seen)
 unfolding row_time
-time state asked objects = refusing state _ _
+time state seen = refusing state _ _
 
-full : (state : ReplicaState) (asked : Asked) (objects : List ObjectId) → MayGive state (row_full state asked objects)
+full : (state : ReplicaState) (seen : List Seen) → MayGive state (row_full state seen)
 unfolding row_full
-full state asked objects = refusing state _ _
+full state seen = refusing state _ _
 
 -- no entry, no candidate
 pub method_at_none : (bounds : ℕ) → method_at bounds [] ≡ None
@@ -146,33 +144,38 @@ waiting state missing false decision given = absurd (none-some decision given)
 waiting state missing true decision given =
     subst (MayDecide state) (same_Some (Waits missing) decision given) tt
 
-retry : (state : ReplicaState) (asked : Asked) (parts : List (ObjectId × Method)) (objects : List ObjectId)
-    → MayGive state (row_retry state asked parts objects)
+retry : (state : ReplicaState) (asked : Asked) (parts : List (ObjectId × Method)) (seen : List Seen)
+    → MayGive state (row_retry state asked parts seen)
 unfolding row_retry
-retry state asked parts objects = answering state _ _ _
+retry state asked parts seen = answering state _ _ _
 
-kept : (state : ReplicaState) (asked : Asked) (parts : List (ObjectId × Method)) (objects : List ObjectId)
-    → MayGive state (row_kept state asked parts objects)
+kept : (state : ReplicaState) (asked : Asked) (parts : List (ObjectId × Method)) (before : List ObjState)
+    → MayGive state (row_kept asked parts before)
 unfolding row_kept
-kept state asked parts objects = repeating state _
+kept state asked parts before = repeating state _
 
-version : (state : ReplicaState) (asked : Asked) (objects : List ObjectId)
-    → MayGive state (row_version state asked objects)
+version : (state : ReplicaState) (seen : List Seen) → MayGive state (row_version state seen)
 unfolding row_version
-version state asked objects = waiting state _ _
+version state seen = waiting state _ _
 
-told-may : (state : ReplicaState) (asked : Asked) (parts : List (ObjectId × Ask)) (objects : List ObjectId)
-    → MayGive state (row_told state asked parts objects)
+told-may : (state : ReplicaState) (parts : List (ObjectId × Ask)) (seen : List Seen) (before : List ObjState)
+    → MayGive state (row_told parts seen before)
 unfolding row_told
-told-may state asked parts objects decision given = subst (MayDecide state) (same_Some _ decision given) tt
+told-may state parts seen before decision given = subst (MayDecide state) (same_Some _ decision given) tt
 
-made_of : (asked : Asked) (group : List (ObjectId × ℕ)) (object : ObjectId) (base : Option Candidate)
+made_upon : (asked : Asked) (group : List (ObjectId × ℕ)) (latest : Stamp) (base : Option Candidate)
     (fresh : Candidate)
-    → option_map (λ (it : Candidate). record { stamp = fresh_stamp asked object; prior = it.stamp; group = group }) base
-    ≡ Some fresh → (base ≡ None → ⊥) × (fresh.stamp ≡ fresh_stamp asked object)
-made_of asked group object None fresh made = absurd (none-some fresh made)
-made_of asked group object (Some it) fresh made =
+    → option_map (λ (it : Candidate). record { stamp = stamp_after asked latest; prior = it.stamp; group = group }) base
+    ≡ Some fresh → (base ≡ None → ⊥) × (fresh.stamp ≡ stamp_after asked latest)
+made_upon asked group latest None fresh made = absurd (none-some fresh made)
+made_upon asked group latest (Some it) fresh made =
     ((λ none. none-some it (sym none)), sym (ap (λ (candidate : Candidate). candidate.stamp) (same_Some _ _ made)))
+
+-- a fresh candidate rests upon one, and has the fresh stamp
+pub made_of : (asked : Asked) (group : List (ObjectId × ℕ)) (one : Seen) (fresh : Candidate)
+    → fresh_candidate asked group one ≡ Some fresh
+    → (one.method ≡ None → ⊥) × (fresh.stamp ≡ stamp_after asked one.latest)
+made_of asked group one fresh made = made_upon asked group one.latest one.method fresh made
 
 in_time_of : (latest fresh : Stamp) → fresh.time ≡ latest.time + 1 → latest.time < LAST_TIME → fresh.time ≤ LAST_TIME
 in_time_of latest fresh next spent = omega arith
@@ -187,11 +190,12 @@ may_accept_fresh : (state : ReplicaState) (asked : Asked) (group : List (ObjectI
     → is_below (latest_of (shown_of asked object)) (own_latest state object) ≡ false
     → nat_le LAST_TIME (latest_of (shown_of asked object)).time ≡ false
     → nat_le HISTORY_LIMIT (length (own_candidates state object)) ≡ false
-    → (fresh : Candidate) → fresh_act state asked group object ≡ Some fresh → (version : ObjState)
+    → (fresh : Candidate) → fresh_candidate asked group (seen_of state asked object) ≡ Some fresh
+    → (version : ObjState)
     → MayAccept state (record { object = object; candidate = fresh; state = Some version })
 may_accept_fresh state asked group object known current in_time room fresh made version =
     let parts : (method_base state asked object ≡ None → ⊥) × (fresh.stamp ≡ fresh_stamp asked object) =
-    made_of asked group object (method_base state asked object) fresh made in
+    made_of asked group (seen_of state asked object) fresh made in
     let next : fresh.stamp.time ≡ (latest_of (shown_of asked object)).time + 1 =
     ap (λ (stamp : Stamp). stamp.time) parts.1 in
     record {
@@ -203,70 +207,70 @@ may_accept_fresh state asked group object known current in_time room fresh made 
       in_time = in_time_of (latest_of (shown_of asked object)) fresh.stamp next (leb-false _ _ in_time);
     }
 
+abbrev accept_with : ObjectId → ObjState → Candidate → Accepted
+accept_with object version fresh = record { object = object; candidate = fresh; state = Some version }
+
 -- what is accepted is of other objects than this one
 abbrev AreApart : ObjectId → List Accepted → Type 0
 AreApart object accepted = AllByRecursion (λ other. other.object ≡ object → ⊥) accepted
 
 made_apart : (this object : ObjectId) (version : ObjState) (made : Option Candidate) (later : List Accepted)
-    → (object ≡ this → ⊥) → AreApart this later → AreApart this (accepted_of object made version ++ later)
+    → (object ≡ this → ⊥) → AreApart this later
+    → AreApart this (cons_option (option_map (accept_with object version) made) later)
 made_apart this object version None later other so_far = so_far
 made_apart this object version (Some fresh) later other so_far = (other, so_far)
 
--- an act on other objects makes it accept candidates of other objects
-accepted_apart : (state : ReplicaState) (asked : Asked) (group : List (ObjectId × ℕ)) (this : ObjectId)
-    (objects : List ObjectId) (versions : List ObjState) → AllByRecursion (λ object. object ≡ this → ⊥) objects
-    → AreApart this (accepted_by state asked group objects versions)
-accepted_apart state asked group this [] versions others =
-    subst (AreApart this) (sym (accepted_empty state asked group versions)) tt
-accepted_apart state asked group this (object ∷ objects) [] others =
-    subst (AreApart this) (sym (accepted_none state asked group (object ∷ objects))) tt
-accepted_apart state asked group this (object ∷ objects) (version ∷ versions) others =
-    let made : Option Candidate = fresh_act state asked group object in
-    subst (AreApart this) (sym (accepted_cons state asked group object version made objects versions refl))
-    (made_apart this object version made (accepted_by state asked group objects versions) others.0
-    (accepted_apart state asked group this objects versions others.1))
-
 made_each : (state : ReplicaState) (object : ObjectId) (version : ObjState) (made : Option Candidate)
     (later : List Accepted)
-    → ((fresh : Candidate) → made ≡ Some fresh
-    → MayAccept state (record { object = object; candidate = fresh; state = Some version }))
+    → ((fresh : Candidate) → made ≡ Some fresh → MayAccept state (accept_with object version fresh))
     → AreApart object later → MayAcceptAll state later
-    → MayAcceptAll state (accepted_of object made version ++ later)
+    → MayAcceptAll state (cons_option (option_map (accept_with object version) made) later)
 made_each state object version None later may apart so_far = so_far
 made_each state object version (Some fresh) later may apart so_far = (may fresh refl, apart, so_far)
 
--- what an act makes may be accepted
-accepted_may : (state : ReplicaState) (asked : Asked) (group : List (ObjectId × ℕ)) (objects : List ObjectId)
-    (versions : List ObjState) → AreDistinct objects
-    → find (λ (set : SetOf). nat_le (length state.histories) (set.object).0) asked.sets ≡ None
-    → AllByRecursion (λ object. is_below (latest_of (shown_of asked object)) (own_latest state object) ≡ false) objects
-    → AllByRecursion (λ object. nat_le LAST_TIME (latest_of (shown_of asked object)).time ≡ false) objects
-    → AllByRecursion (λ object. has_no_room (own_candidates state object) ≡ false) objects
-    → MayAcceptAll state (accepted_by state asked group objects versions)
-accepted_may state asked group [] versions apart known current in_time room =
-    subst (MayAcceptAll state) (sym (accepted_empty state asked group versions)) tt
-accepted_may state asked group (object ∷ objects) [] apart known current in_time room =
-    subst (MayAcceptAll state) (sym (accepted_none state asked group (object ∷ objects))) tt
-accepted_may state asked group (object ∷ objects) (version ∷ versions) apart known current in_time room =
-    let fresh_one : Option Candidate = fresh_act state asked group object in
-    subst (MayAcceptAll state) (sym (accepted_cons state asked group object version fresh_one objects versions refl))
-    (made_each state object version fresh_one (accepted_by state asked group objects versions)
-    (λ fresh made. may_accept_fresh state asked group object known current.0 in_time.0 room.0 fresh made version)
-    (accepted_apart state asked group object objects versions apart.0)
-    (accepted_may state asked group objects versions apart.1 known current.1 in_time.1 room.1))
+module _ (state : ReplicaState) (asked : Asked) (group : List (ObjectId × ℕ)) where
+  -- what an act makes a replica accept on these objects
+  abbrev accepted : List ObjectId → List ObjState → List Accepted
+  accepted objects versions = accepted_by asked group (seen_each state asked objects) versions
+
+  abbrev made : ObjectId → Option Candidate
+  made object = fresh_candidate asked group (seen_of state asked object)
+
+  -- on other objects it is of other objects
+  accepted_apart : (this : ObjectId) (objects : List ObjectId) (versions : List ObjState)
+      → AllByRecursion (λ object. object ≡ this → ⊥) objects → AreApart this (accepted objects versions)
+  accepted_apart this [] versions others = tt
+  accepted_apart this (object ∷ objects) [] others = tt
+  accepted_apart this (object ∷ objects) (version ∷ versions) others =
+      made_apart this object version (made object) (accepted objects versions) others.0
+      (accepted_apart this objects versions others.1)
+
+  -- what an act makes may be accepted
+  accepted_may : (objects : List ObjectId) (versions : List ObjState) → AreDistinct objects
+      → find (λ (set : SetOf). nat_le (length state.histories) (set.object).0) asked.sets ≡ None
+      → AllByRecursion (λ one. is_below one.latest (own_latest state one.object) ≡ false) (seen_each state asked objects)
+      → AllByRecursion (λ one. nat_le LAST_TIME one.latest.time ≡ false) (seen_each state asked objects)
+      → AllByRecursion (λ one. has_no_room (own_candidates state one.object) ≡ false) (seen_each state asked objects)
+      → MayAcceptAll state (accepted objects versions)
+  accepted_may [] versions apart known current in_time room = tt
+  accepted_may (object ∷ objects) [] apart known current in_time room = tt
+  accepted_may (object ∷ objects) (version ∷ versions) apart known current in_time room =
+      made_each state object version (made object) (accepted objects versions)
+      (λ fresh is. may_accept_fresh state asked group object known current.0 in_time.0 room.0 fresh is version)
+      (accepted_apart object objects versions apart.0)
+      (accepted_may objects versions apart.1 known current.1 in_time.1 room.1)
 
 -- where none is refused, none is bad
-pub none_refused : (bad : ObjectId → Bool) (why : ObjectId → Refusal) (objects : List ObjectId)
-    → refuse_first bad why objects ≡ None → AllByRecursion (λ object. bad object ≡ false) objects
+pub none_refused : {X : Type 0} (bad : X → Bool) (why : X → Refusal) (items : List X)
+    → refuse_first bad why items ≡ None → AllByRecursion (λ it. bad it ≡ false) items
 none_refused bad why [] none = tt
-none_refused bad why (object ∷ objects) none =
-    by_test (bad object) refl none (none_refused bad why objects)
+none_refused {X = X} bad why (item ∷ later) none = by_test (bad item) refl none (none_refused bad why later)
   where
-    by_test : (test : Bool) → bad object ≡ test
-        → option_map (λ (it : ObjectId). refuse (why it)) (cond test (Some object) (find bad objects)) ≡ None
-        → (refuse_first bad why objects ≡ None → AllByRecursion (λ it. bad it ≡ false) objects)
-        → (bad object ≡ false) × AllByRecursion (λ it. bad it ≡ false) objects
-    by_test true is refused so_far = absurd (none-some (refuse (why object)) (sym refused))
+    by_test : (test : Bool) → bad item ≡ test
+        → option_map (λ (it : X). refuse (why it)) (cond test (Some item) (find bad later)) ≡ None
+        → (refuse_first bad why later ≡ None → AllByRecursion (λ it. bad it ≡ false) later)
+        → (bad item ≡ false) × AllByRecursion (λ it. bad it ≡ false) later
+    by_test true is refused so_far = absurd (none-some (refuse (why item)) (sym refused))
     by_test false is passed so_far = (is, so_far passed)
 
 pub no_first : (why : ObjectId → Refusal) (bad : Bool) (object : ObjectId)
@@ -280,15 +284,18 @@ unfolding row_unknown
 no_unknown state asked none = unmapped (λ (set : SetOf). refuse (UnknownObject set.object)) _ none
 
 done : (state : ReplicaState) (asked : Asked) (parts : List (ObjectId × Method)) (objects : List ObjectId)
-    → AreDistinct objects → row_unknown state asked ≡ None → row_current state asked objects ≡ None
-    → row_time state asked objects ≡ None → row_full state asked objects ≡ None
-    → MayGive state (row_done state asked parts objects)
+    (before : List ObjState) → AreDistinct objects → row_unknown state asked ≡ None
+    → row_current state (seen_each state asked objects) ≡ None → row_time (seen_each state asked objects) ≡ None
+    → row_full state (seen_each state asked objects) ≡ None
+    → MayGive state (row_done asked parts (seen_each state asked objects) before)
 unfolding row_current row_time row_full row_done
-done state asked parts objects apart unknown current time full decision given =
+done state asked parts objects before apart unknown current time full decision given =
+    let seen : List Seen = seen_each state asked objects in
     subst (MayDecide state) (same_Some _ decision given)
-    (accepted_may state asked (fresh_group asked objects) objects _ apart (no_unknown state asked unknown)
-    (none_refused _ (λ it. NotCurrent it (own_latest state it)) objects current)
-    (none_refused _ TimeSpent objects time) (none_refused _ HistoryFull objects full))
+    (accepted_may state asked (group_seen asked seen) objects _ apart (no_unknown state asked unknown)
+    (none_refused _ (λ (it : Seen). NotCurrent it.object (own_latest state it.object)) seen current)
+    (none_refused _ (λ (it : Seen). TimeSpent it.object) seen time)
+    (none_refused _ (λ (it : Seen). HistoryFull it.object) seen full))
 
 nothing : (state : ReplicaState) → MayDecide state (first_given (Waits []) [])
 unfolding first_given
@@ -300,14 +307,14 @@ unfolding decide_act
 may_act state asked parts objects apart =
     past state _ _ (unknown state asked) (λ known.
     past state _ _ (thin state asked) (λ _.
-    past state _ _ (retry state asked parts objects) (λ _.
-    past state _ _ (current state asked objects) (λ is_current.
-    past state _ _ (method state asked objects) (λ _.
-    past state _ _ (version state asked objects) (λ _.
-    past state _ _ (kept state asked parts objects) (λ _.
-    past state _ _ (time state asked objects) (λ in_time.
-    past state _ _ (full state asked objects) (λ room.
-    past state _ _ (done state asked parts objects apart known is_current in_time room) (λ _. nothing state))))))))))
+    past state _ _ (retry state asked parts _) (λ _.
+    past state _ _ (current state _) (λ is_current.
+    past state _ _ (method state _) (λ _.
+    past state _ _ (version state _) (λ _.
+    past state _ _ (kept state asked parts _) (λ _.
+    past state _ _ (time state _) (λ in_time.
+    past state _ _ (full state _) (λ room.
+    past state _ _ (done state asked parts objects _ apart known is_current in_time room) (λ _. nothing state))))))))))
 
 may_ask : (state : ReplicaState) (asked : Asked) (parts : List (ObjectId × Ask)) (objects : List ObjectId)
     → MayDecide state (decide_ask state asked parts objects)
@@ -315,10 +322,10 @@ unfolding decide_ask
 may_ask state asked parts objects =
     past state _ _ (unknown state asked) (λ _.
     past state _ _ (thin state asked) (λ _.
-    past state _ _ (current state asked objects) (λ _.
-    past state _ _ (method state asked objects) (λ _.
-    past state _ _ (version state asked objects) (λ _.
-    past state _ _ (told-may state asked parts objects) (λ _. nothing state))))))
+    past state _ _ (current state _) (λ _.
+    past state _ _ (method state _) (λ _.
+    past state _ _ (version state _) (λ _.
+    past state _ _ (told-may state parts _ _) (λ _. nothing state))))))
 
 refused_if : (state : ReplicaState) (why : Refusal) (test : Bool)
     → MayGive state (cond test (Some (refuse why)) None)

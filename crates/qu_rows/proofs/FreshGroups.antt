@@ -15,8 +15,7 @@ use Rattle.qu_objects.specs.declared.limits.TheConstants.{MOST_PARTS}
 use Rattle.qu_objects.proofs.PartLaws.{few_parts}
 use Rattle.qu_mends.specs.declared.seen.Seen.{Seen}
 use Rattle.qu_mends.specs.Remedy.{fresh_member}
-use Rattle.qu_rows.specs.Rows.{Asked, objects_of, unless_alone, fresh_stamp, fresh_group}
-use Rattle.qu_rows.specs.SeenRows.{AreOperated, stamp_seen, members_seen, group_seen}
+use Rattle.qu_rows.specs.Rows.{Asked, AreOperated, objects_of, stamp_after, fresh_stamp, unless_alone, fresh_group, members_seen, group_seen}
 use Rattle.qu_kept.proofs.RisingObjects.{IsNumbered, RiseFrom, parts_objects_rise}
 
 -- ---- rising objects with times are a group
@@ -148,7 +147,7 @@ times_seen asked (one ∷ later) in_time =
 few_seen : (asked : Asked) (seen : List Seen) → AreOperated seen → length (members_seen asked seen) ≤ MOST_PARTS
 few_seen asked seen are =
     let with_it : Seen → ObjectId × Seen = λ one. (one.object, one) in
-    let with_time : Seen → ObjectId × ℕ = λ one. (one.object, (stamp_seen asked one).time) in
+    let with_time : Seen → ObjectId × ℕ = λ one. (one.object, (stamp_after asked one.latest).time) in
     let few : length (map with_it seen) ≤ MOST_PARTS = few_parts (map with_it seen) are in
     let as_many : length (map with_it seen) ≡ length seen = length-map seen with_it in
     let members : length (members_seen asked seen) ≡ length seen = length-map seen with_time in

@@ -12,9 +12,9 @@ use Rattle.qu_history.specs.History.{ObjectHistory, latest, holds}
 use Rattle.qu_history.proofs.Stamps.{not_below_latest}
 use Rattle.qu_rows.specs.State.{ReplicaState, own_candidates}
 use Rattle.qu_mends.specs.Table.{candidates_in}
+use Rattle.qu_mends.specs.Mending.{is_held_in}
 use Rattle.qu_mends.specs.declared.seen.Seen.{Seen}
-use Rattle.qu_rows.specs.Rows.{Asked}
-use Rattle.qu_rows.specs.SeenRows.{stamp_seen, held_on, group_seen, fresh_keys, held_keys}
+use Rattle.qu_rows.specs.Rows.{Asked, stamp_after, group_seen, is_held}
 use Rattle.qu_rows.specs.State.{AreHistories}
 use Rattle.qu_rows.proofs.Own.{own_history}
 
@@ -41,10 +41,10 @@ own_in_time state object held own is_held =
 
 fresh_not_held : (state : ReplicaState) (asked : Asked) (group : List (ObjectId × ℕ)) (one : Seen)
     (base : Candidate) → AreHistories state → LAST_TIME ≤ one.latest.time
-    → holds (record { stamp = stamp_seen asked one; prior = base.stamp; group = group })
+    → holds (record { stamp = stamp_after asked one.latest; prior = base.stamp; group = group })
     (own_candidates state one.object) ≡ false
 fresh_not_held state asked group one base own spent =
-    let fresh : Candidate = record { stamp = stamp_seen asked one; prior = base.stamp; group = group } in
+    let fresh : Candidate = record { stamp = stamp_after asked one.latest; prior = base.stamp; group = group } in
     elim (cases_Bool (holds fresh (own_candidates state one.object))) [
       | inl is_held ↦
           let in_time : one.latest.time + 1 ≤ LAST_TIME = own_in_time state one.object fresh own is_held in
@@ -52,22 +52,18 @@ fresh_not_held state asked group one base own spent =
       | inr not_held ↦ not_held
     ]
 
-abbrev pub is_held_by : ReplicaState → ObjectId → Option Candidate → Bool
-is_held_by state object None = false
-is_held_by state object (Some fresh) = holds fresh (own_candidates state object)
-
 and_false : (test : Bool) → (test && false) ≡ false
 and_false true = refl
 and_false false = refl
 
 -- so a replica holds no fresh candidate of an object whose time is spent
 spent_not_held : (state : ReplicaState) (asked : Asked) (group : List (ObjectId × ℕ)) (one : Seen)
-    → AreHistories state → LAST_TIME ≤ one.latest.time → held_on state asked group one ≡ false
-unfolding held_on
+    → AreHistories state → LAST_TIME ≤ one.latest.time → is_held state asked group one ≡ false
+unfolding is_held
 spent_not_held state asked group one own spent =
-    elim (one.method) as (λ (base : Option Candidate). is_held_by state one.object
+    elim (one.method) as (λ (base : Option Candidate). is_held_in (own_candidates state one.object)
     (option_map (λ (it : Candidate). let fresh : Candidate = record {
-      stamp = stamp_seen asked one;
+      stamp = stamp_after asked one.latest;
       prior = it.stamp;
       group = group;
     } in fresh) base) ≡ false) [
@@ -78,7 +74,7 @@ spent_not_held state asked group one own spent =
 -- and where one of some objects is such, it does not hold those of all
 not_all_held : (state : ReplicaState) (asked : Asked) (group : List (ObjectId × ℕ)) (seen : List Seen) (spent : Seen)
     → AreHistories state → find (λ (one : Seen). nat_le LAST_TIME one.latest.time) seen ≡ Some spent
-    → list_all (held_on state asked group) seen ≡ false
+    → list_all (is_held state asked group) seen ≡ false
 not_all_held state asked group [] spent own found = absurd (none-some spent found)
 not_all_held state asked group (one ∷ later) spent own found =
     by (nat_le LAST_TIME one.latest.time) refl found (not_all_held state asked group later spent own)
@@ -86,20 +82,18 @@ not_all_held state asked group (one ∷ later) spent own found =
     by : (test : Bool) → nat_le LAST_TIME one.latest.time ≡ test
         → cond test (Some one) (find (λ (it : Seen). nat_le LAST_TIME it.latest.time) later) ≡ Some spent
         → (find (λ (it : Seen). nat_le LAST_TIME it.latest.time) later ≡ Some spent
-        → list_all (held_on state asked group) later ≡ false)
-        → (held_on state asked group one && list_all (held_on state asked group) later) ≡ false
+        → list_all (is_held state asked group) later ≡ false)
+        → (is_held state asked group one && list_all (is_held state asked group) later) ≡ false
     by true is here so_far = and_left _ _ (spent_not_held state asked group one own (leb-true _ _ is))
     by false is there so_far =
-        ap (λ (all : Bool). held_on state asked group one && all) (so_far there) ∙ and_false _
+        ap (λ (all : Bool). is_held state asked group one && all) (so_far there) ∙ and_false _
 
 pub none_held : (state : ReplicaState) (asked : Asked) (seen : List Seen) → AreHistories state
     → is_some (find (λ (one : Seen). nat_le LAST_TIME one.latest.time) seen) ≡ true
-    → held_keys state asked seen ≡ None
+    → list_all (is_held state asked (group_seen asked seen)) seen ≡ false
 none_held state asked seen own found = by (find (λ (one : Seen). nat_le LAST_TIME one.latest.time) seen) refl found
   where
     by : (spent : Option Seen) → find (λ (one : Seen). nat_le LAST_TIME one.latest.time) seen ≡ spent
-        → is_some spent ≡ true → held_keys state asked seen ≡ None
+        → is_some spent ≡ true → list_all (is_held state asked (group_seen asked seen)) seen ≡ false
     by None none is = absurd (false≢true is)
-    by (Some spent) found is =
-        ap (λ (all : Bool). cond all (Some (fresh_keys asked seen)) None)
-        (not_all_held state asked (group_seen asked seen) seen spent own found)
+    by (Some spent) found is = not_all_held state asked (group_seen asked seen) seen spent own found

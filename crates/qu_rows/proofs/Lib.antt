@@ -1,14 +1,10 @@
-pub mod Accepting
 pub mod Allowed
-pub mod Carried
 pub mod CulledRequests
 pub mod Facts
 pub mod FreshGroups
 pub mod Held
 pub mod Keeping
-pub mod Making
 pub mod MendedObjects
 pub mod NamedEntries
 pub mod Own
-pub mod SeenRows
 pub mod Shown

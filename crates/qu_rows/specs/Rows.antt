@@ -1,5 +1,5 @@
 -- What a replica makes of a request, row by row (Query/Update: the replica's handling of a request).
-use Rattle.std.specs.Prelude.{ℕ, Bool, false, not, ◌+◌, nat_lt, nat_le, if◌then◌else◌, List, [], ◌∷◌, length, map, filter, find, Option, None, Some, is_none, option_map, option_and_then, unwrap_or}
+use Rattle.std.specs.Prelude.{ℕ, Bool, false, not, ◌+◌, nat_lt, nat_le, if◌then◌else◌, List, [], ◌∷◌, length, map, filter, find, zip, Option, None, Some, is_none, option_map, option_and_then, unwrap_or, IsTrue}
 use Rattle.std.specs.List.{list_all, list_any, filter_map}
 use Rattle.qu_base.specs.declared.party.ClientId.{ClientId}
 use Rattle.qu_base.specs.declared.party.Digest.{Digest}
@@ -10,13 +10,14 @@ use Rattle.qu_stamp.specs.declared.limits.TheConstants.{LAST_TIME}
 use Rattle.qu_stamp.specs.declared.candidate.Candidate.{Candidate}
 use Rattle.qu_stamp.specs.Stamp.{is_below}
 use Rattle.qu_history.specs.declared.sets.SetOf.{SetOf}
-use Rattle.qu_history.specs.History.{ObjectHistory, holds}
+use Rattle.qu_history.specs.History.{ObjectHistory}
 use Rattle.qu_history.specs.Sets.{entries_of, latest_of, method_at}
 use Rattle.qu_history.specs.Text.{sets_digest}
 use Rattle.qu_history.specs.Culling.{culled}
 use Rattle.qu_objects.specs.declared.act.Method.{Method}
 use Rattle.qu_objects.specs.declared.query.Ask.{Ask}
 use Rattle.qu_objects.specs.declared.state.ObjState.{ObjState}
+use Rattle.qu_objects.specs.Parts.{are_parts}
 use Rattle.qu_objects.specs.Performing.{performed_answer, told_answer}
 use Rattle.qu_objects.specs.Digesting.{act_digest}
 use Rattle.qu_plan.specs.declared.fact.Fact.{Fact}
@@ -42,7 +43,7 @@ use Rattle.qu_mends.specs.declared.mending.Mending.{Mending}
 use Rattle.qu_mends.specs.declared.mending.Mending.TheVariants as mending
 use Rattle.qu_kept.specs.Remedy.{wanted_by}
 use Rattle.qu_mends.specs.Remedy.{MendPart, mend_of}
-use Rattle.qu_mends.specs.Mending.{decide_mend}
+use Rattle.qu_mends.specs.Mending.{is_held_in, decide_mend}
 use Rattle.qu_mends.specs.declared.seen.Seen.{Seen}
 use Rattle.qu_mends.specs.declared.accepted.Accepted.{Accepted}
 use Rattle.qu_rows.specs.declared.decision.Decision.{Decision}
@@ -94,29 +95,71 @@ refuse why = Answers (verdict.Refused why) []
 abbrev pub shown_of : Asked → ObjectId → List ObjectHistory
 shown_of asked object = entries_of object asked.sets
 
--- the candidate upon which an operation may rest
-abbrev pub method_base : ReplicaState → Asked → ObjectId → Option Candidate
-method_base state asked object = method_at state.keys.bounds (shown_of asked object)
-
 -- what the sets show of an object, which all rows look at
 abbrev pub seen_of : ReplicaState → Asked → ObjectId → Seen
 seen_of state asked object = seen_in state.keys.bounds asked.sets object
 
--- the version upon which it rests
+-- of each of them
+abbrev pub seen_each : ReplicaState → Asked → List ObjectId → List Seen
+seen_each state asked objects = map (seen_of state asked) objects
+
+-- they are the objects of an operation: some, few, and rising
+abbrev pub AreOperated : List Seen → Type 0
+AreOperated seen = IsTrue (are_parts (map (λ one. (one.object, one)) seen))
+
+-- ---- upon what an operation rests
+
+-- the candidate upon which an operation may rest
+abbrev pub method_base : ReplicaState → Asked → ObjectId → Option Candidate
+method_base state asked object = method_at state.keys.bounds (shown_of asked object)
+
+-- the version upon which one rests that was seen so
+abbrev pub version_seen : ReplicaState → Seen → Option ObjState
+version_seen state one = option_and_then (λ base. version_at one.object base.stamp state.versions) one.method
+
 abbrev pub base_version : ReplicaState → Asked → ObjectId → Option ObjState
-base_version state asked object =
-    option_and_then (λ base. version_at object base.stamp state.versions) (method_base state asked object)
+base_version state asked object = version_seen state (seen_of state asked object)
+
+abbrev pub base_versions : ReplicaState → List Seen → List ObjState
+base_versions state seen = filter_map (version_seen state) seen
+
+-- the objects, each with the stamp upon which an operation rests
+abbrev pub base_key : Seen → Option (ObjectId × Stamp)
+base_key one = option_map (λ (base : Candidate). (one.object, base.stamp)) one.method
+
+abbrev pub base_keys : List Seen → List (ObjectId × Stamp)
+base_keys seen = filter_map base_key seen
+
+-- those of the versions under these stamps that the replica lacks
+abbrev pub missing_of : ReplicaState → List (ObjectId × Stamp) → List (ObjectId × Stamp)
+missing_of state keys = filter (λ key. not (has_version key.0 key.1 state.versions)) keys
+
+-- those that it has
+abbrev pub versions_under : ReplicaState → List (ObjectId × Stamp) → List ObjState
+versions_under state keys = filter_map (λ key. version_at key.0 key.1 state.versions) keys
+
+-- ---- what an act makes
 
 -- a fresh stamp has the time after the latest, and the digests of the act and of the sets
-abbrev pub fresh_stamp : Asked → ObjectId → Stamp
-fresh_stamp asked object =
+abbrev pub stamp_after : Asked → Stamp → Stamp
+stamp_after asked latest =
     record {
-      time = (latest_of (shown_of asked object)).time + 1;
+      time = latest.time + 1;
       barrier = false;
       client = asked.client;
       act = asked.act;
       set = asked.set;
     }
+
+abbrev pub fresh_stamp : Asked → ObjectId → Stamp
+fresh_stamp asked object = stamp_after asked (latest_of (shown_of asked object))
+
+abbrev pub fresh_stamps : Asked → List Seen → List Stamp
+fresh_stamps asked seen = map (λ one. stamp_after asked one.latest) seen
+
+-- the objects, each with its fresh stamp
+abbrev pub fresh_keys : Asked → List Seen → List (ObjectId × Stamp)
+fresh_keys asked seen = map (λ one. (one.object, stamp_after asked one.latest)) seen
 
 -- one candidate alone has no group
 abbrev pub unless_alone : List (ObjectId × ℕ) → List (ObjectId × ℕ)
@@ -127,44 +170,41 @@ unless_alone members = members
 abbrev pub fresh_group : Asked → List ObjectId → List (ObjectId × ℕ)
 fresh_group asked objects = unless_alone (map (λ object. (object, (fresh_stamp asked object).time)) objects)
 
+abbrev pub members_seen : Asked → List Seen → List (ObjectId × ℕ)
+members_seen asked seen = map (λ one. (one.object, (stamp_after asked one.latest).time)) seen
+
+abbrev pub group_seen : Asked → List Seen → List (ObjectId × ℕ)
+group_seen asked seen = unless_alone (members_seen asked seen)
+
 -- the candidate that the act makes on an object, with this group
-abbrev pub fresh_act : ReplicaState → Asked → List (ObjectId × ℕ) → ObjectId → Option Candidate
-fresh_act state asked group object =
-    option_map (λ base. record { stamp = fresh_stamp asked object; prior = base.stamp; group = group })
-    (method_base state asked object)
+abbrev pub fresh_candidate : Asked → List (ObjectId × ℕ) → Seen → Option Candidate
+fresh_candidate asked group one =
+    option_map (λ base. record { stamp = stamp_after asked one.latest; prior = base.stamp; group = group }) one.method
 
--- the objects, each with its stamp
-abbrev pub stamps_by : (ObjectId → Option Stamp) → List ObjectId → List (ObjectId × Stamp)
-stamps_by stamp objects = filter_map (λ object. option_map (λ (found : Stamp). (object, found)) (stamp object)) objects
+-- it is held already
+unfoldable pub is_held : ReplicaState → Asked → List (ObjectId × ℕ) → Seen → Bool
+is_held state asked group one =
+    is_held_in (own_candidates state one.object) (fresh_candidate asked group one)
 
-abbrev pub fresh_stamps : ReplicaState → Asked → List ObjectId → List (ObjectId × Stamp)
-fresh_stamps state asked objects =
-    stamps_by (λ object. option_map (λ base. fresh_stamp asked object) (method_base state asked object)) objects
+-- it is accepted, with the object's version after the act
+abbrev pub accepted_one : Asked → List (ObjectId × ℕ) → Seen × ObjState → Option Accepted
+accepted_one asked group each =
+    option_map (λ (fresh : Candidate). record { object = (each.0).object; candidate = fresh; state = Some each.1 })
+    (fresh_candidate asked group each.0)
 
-abbrev pub base_stamps : ReplicaState → Asked → List ObjectId → List (ObjectId × Stamp)
-base_stamps state asked objects =
-    stamps_by (λ object. option_map (λ base. base.stamp) (method_base state asked object)) objects
-
--- those of the versions under these stamps that the replica lacks
-abbrev pub missing_of : ReplicaState → List (ObjectId × Stamp) → List (ObjectId × Stamp)
-missing_of state keys = filter (λ key. not (has_version key.0 key.1 state.versions)) keys
-
-abbrev pub base_versions : ReplicaState → Asked → List ObjectId → List ObjState
-base_versions state asked objects = filter_map (λ object. base_version state asked object) objects
-
--- the versions of the candidates that the act makes
-abbrev pub fresh_versions : ReplicaState → Asked → List ObjectId → List ObjState
-fresh_versions state asked objects =
-    filter_map (λ object. version_at object (fresh_stamp asked object) state.versions) objects
+abbrev pub accepted_by : Asked → List (ObjectId × ℕ) → List Seen → List ObjState → List Accepted
+accepted_by asked group seen versions = filter_map (accepted_one asked group) (zip seen versions)
 
 -- how an act stands to what these versions keep of its client
 abbrev pub standing_in : Asked → List (ObjectId × Method) → List ObjState → Standing
 standing_in asked parts versions =
     elim (asked.act) [ None ↦ Fresh | Some act ↦ standing_of asked.client asked.number act parts versions ]
 
--- the first object of which the fact holds is refused
-abbrev pub refuse_first : (ObjectId → Bool) → (ObjectId → Refusal) → List ObjectId → Option Decision
-refuse_first bad why objects = option_map (λ object. refuse (why object)) (find bad objects)
+-- ---- the rows of an act and of a query, by what was seen of each of their objects
+
+-- the first of which the fact holds is refused
+abbrev pub refuse_first : {X : Type 0} → (X → Bool) → (X → Refusal) → List X → Option Decision
+refuse_first bad why items = option_map (λ it. refuse (why it)) (find bad items)
 
 -- the first object of the sets that the replica does not have
 abbrev pub unknown_in : ReplicaState → List SetOf → Option SetOf
@@ -181,13 +221,8 @@ row_unknown state asked = unknown_refused (unknown_in state asked.sets)
 -- fewer entries than a quorum
 unfoldable pub row_thin : ReplicaState → Asked → Option Decision
 row_thin state asked =
-    option_map (λ set. refuse (refusal.Thin set.object))
-    (find (λ set. nat_lt (length set.entries) (quorum state.keys.bounds)) asked.sets)
-
--- the fresh candidate of an object is held already
-unfoldable pub is_held : ReplicaState → Asked → List (ObjectId × ℕ) → ObjectId → Bool
-is_held state asked group object =
-    elim (fresh_act state asked group object) [ None ↦ false | Some fresh ↦ holds fresh (own_candidates state object) ]
+    refuse_first (λ set. nat_lt (length set.entries) (quorum state.keys.bounds)) (λ set. refusal.Thin set.object)
+    asked.sets
 
 -- an act that was performed before is done, with the answer that it had
 abbrev pub done_again : List (ObjectId × Stamp) → Standing → Option Decision
@@ -196,34 +231,32 @@ done_again stamps Fresh = None
 done_again stamps (Spent object number) = None
 
 -- a retry whose candidates are all held is told the answer that their versions keep
-unfoldable pub row_retry : ReplicaState → Asked → List (ObjectId × Method) → List ObjectId → Option Decision
-row_retry state asked parts objects =
-    if list_all (is_held state asked (fresh_group asked objects)) objects
-    then done_again (fresh_stamps state asked objects) (standing_in asked parts (fresh_versions state asked objects))
+unfoldable pub row_retry : ReplicaState → Asked → List (ObjectId × Method) → List Seen → Option Decision
+row_retry state asked parts seen =
+    if list_all (is_held state asked (group_seen asked seen)) seen
+    then done_again (fresh_keys asked seen) (standing_in asked parts (versions_under state (fresh_keys asked seen)))
     else None
 
 -- the replica has a later candidate than the sets show
-unfoldable pub row_current : ReplicaState → Asked → List ObjectId → Option Decision
-row_current state asked objects =
-    refuse_first (λ object. is_below (latest_of (shown_of asked object)) (own_latest state object))
-    (λ object. refusal.NotCurrent object (own_latest state object)) objects
+unfoldable pub row_current : ReplicaState → List Seen → Option Decision
+row_current state seen =
+    refuse_first (λ one. is_below one.latest (own_latest state one.object))
+    (λ one. refusal.NotCurrent one.object (own_latest state one.object)) seen
 
 -- the class that is told of an object upon which no operation may rest: without an object candidate it is BARRIER
-abbrev pub class_told : ReplicaState → Asked → ObjectId → ClassCode
-class_told state asked object =
-    unwrap_or (class_code (class_in state.keys.bounds asked.sets object)) Barrier
+abbrev pub class_told : Seen → ClassCode
+class_told one = unwrap_or (class_code one.class) Barrier
 
 -- the object is of another class than METHOD
-unfoldable pub row_method : ReplicaState → Asked → List ObjectId → Option Decision
-row_method state asked objects =
-    refuse_first (λ object. is_none (method_base state asked object))
-    (λ object. refusal.NotMethod object (class_told state asked object)) objects
+unfoldable pub row_method : List Seen → Option Decision
+row_method seen =
+    refuse_first (λ one. is_none one.method) (λ one. refusal.NotMethod one.object (class_told one)) seen
 
 -- a version upon which the operation rests is missing
-unfoldable pub row_version : ReplicaState → Asked → List ObjectId → Option Decision
-row_version state asked objects =
-    if list_any (λ object. is_none (base_version state asked object)) objects
-    then Some (Waits (missing_of state (base_stamps state asked objects))) else None
+unfoldable pub row_version : ReplicaState → List Seen → Option Decision
+row_version state seen =
+    if list_any (λ one. is_none (version_seen state one)) seen then Some (Waits (missing_of state (base_keys seen)))
+    else None
 
 abbrev pub repeated : Standing → Option Decision
 repeated Fresh = None
@@ -232,72 +265,61 @@ repeated (Spent object number) = Some (refuse (refusal.Spent object number))
 
 -- the versions upon which the act rests keep that it was performed before, or a number of its client that is at
 -- least its own
-unfoldable pub row_kept : ReplicaState → Asked → List (ObjectId × Method) → List ObjectId → Option Decision
-row_kept state asked parts objects = repeated (standing_in asked parts (base_versions state asked objects))
+unfoldable pub row_kept : Asked → List (ObjectId × Method) → List ObjState → Option Decision
+row_kept asked parts before = repeated (standing_in asked parts before)
 
 -- the time of the object is spent
-unfoldable pub row_time : ReplicaState → Asked → List ObjectId → Option Decision
-row_time state asked objects =
-    refuse_first (λ object. nat_le LAST_TIME (latest_of (shown_of asked object)).time)
-    (λ object. refusal.TimeSpent object) objects
+unfoldable pub row_time : List Seen → Option Decision
+row_time seen =
+    refuse_first (λ one. nat_le LAST_TIME one.latest.time) (λ one. refusal.TimeSpent one.object) seen
 
 -- the history of the object is full
-unfoldable pub row_full : ReplicaState → Asked → List ObjectId → Option Decision
-row_full state asked objects =
-    refuse_first (λ object. has_no_room (own_candidates state object))
-    (λ object. refusal.HistoryFull object) objects
-
--- each object's fresh candidate, with its version after the act
-unfoldable pub accepted_by : ReplicaState → Asked → List (ObjectId × ℕ) → List ObjectId → List ObjState → List Accepted
-accepted_by state asked group [] versions = []
-accepted_by state asked group (object ∷ objects) [] = []
-accepted_by state asked group (object ∷ objects) (version ∷ versions) = elim (fresh_act state asked group object) [
-  | None ↦ accepted_by state asked group objects versions
-  | Some fresh ↦ record { object = object; candidate = fresh; state = Some version }
-      ∷ accepted_by state asked group objects versions
-]
+unfoldable pub row_full : ReplicaState → List Seen → Option Decision
+row_full state seen =
+    refuse_first (λ one. has_no_room (own_candidates state one.object)) (λ one. refusal.HistoryFull one.object) seen
 
 -- the act is performed upon the versions, and all its candidates are accepted
-unfoldable pub row_done : ReplicaState → Asked → List (ObjectId × Method) → List ObjectId → Option Decision
-row_done state asked parts objects =
-    let before = base_versions state asked objects in
-    let stamps = map (fresh_stamp asked) objects in
-    Some (Answers (verdict.Done (fresh_stamps state asked objects) (performed_answer parts (values_of before)))
-    (accepted_by state asked (fresh_group asked objects) objects
-    (performed_states asked.client asked.number parts stamps before)))
+unfoldable pub row_done : Asked → List (ObjectId × Method) → List Seen → List ObjState → Option Decision
+row_done asked parts seen before =
+    Some (Answers (verdict.Done (fresh_keys asked seen) (performed_answer parts (values_of before)))
+    (accepted_by asked (group_seen asked seen) seen
+    (performed_states asked.client asked.number parts (fresh_stamps asked seen) before)))
 
 -- the query is answered from the versions
-unfoldable pub row_told : ReplicaState → Asked → List (ObjectId × Ask) → List ObjectId → Option Decision
-row_told state asked parts objects =
-    Some (Answers
-    (verdict.Told (base_stamps state asked objects)
-    (told_answer parts (values_of (base_versions state asked objects)))) [])
+unfoldable pub row_told : List (ObjectId × Ask) → List Seen → List ObjState → Option Decision
+row_told parts seen before =
+    Some (Answers (verdict.Told (base_keys seen) (told_answer parts (values_of before))) [])
 
 abbrev pub objects_of : {X : Type 0} → List (ObjectId × X) → List ObjectId
 objects_of parts = map (λ part. part.0) parts
 
 unfoldable pub decide_act : ReplicaState → Asked → List (ObjectId × Method) → List ObjectId → Decision
-decide_act state asked parts objects = first_given (Waits []) (
+decide_act state asked parts objects =
+    let seen = seen_each state asked objects in
+    let before = base_versions state seen in
+    first_given (Waits []) (
     row_unknown state asked
     ∷ row_thin state asked
-    ∷ row_retry state asked parts objects
-    ∷ row_current state asked objects
-    ∷ row_method state asked objects
-    ∷ row_version state asked objects
-    ∷ row_kept state asked parts objects
-    ∷ row_time state asked objects
-    ∷ row_full state asked objects
-    ∷ row_done state asked parts objects
+    ∷ row_retry state asked parts seen
+    ∷ row_current state seen
+    ∷ row_method seen
+    ∷ row_version state seen
+    ∷ row_kept asked parts before
+    ∷ row_time seen
+    ∷ row_full state seen
+    ∷ row_done asked parts seen before
     ∷ [])
 
 unfoldable pub decide_ask : ReplicaState → Asked → List (ObjectId × Ask) → List ObjectId → Decision
-decide_ask state asked parts objects = first_given (Waits []) (
+decide_ask state asked parts objects =
+    let seen = seen_each state asked objects in
+    first_given (Waits []) (
     row_unknown state asked
     ∷ row_thin state asked
-    ∷ row_current state asked objects
-    ∷ row_method state asked objects
-    ∷ row_version state asked objects
-    ∷ row_told state asked parts objects
+    ∷ row_current state seen
+    ∷ row_method seen
+    ∷ row_version state seen
+    ∷ row_told parts seen (base_versions state seen)
     ∷ [])
 
 -- ---- a repair

@@ -1,9 +1,9 @@
-ghost use Rattle.std.specs.Prelude.{◌≡◌, [], ◌++◌, length, map, slice_get, IfOk, IsTrue};
+ghost use Rattle.std.specs.Prelude.{◌≡◌, [], ◌++◌, length, slice_get, IfOk, IsTrue};
 ghost use Rattle.std.specs.Option.{option_copied};
 ghost use Rattle.qu_history.specs.History.{latest};
 ghost use Rattle.qu_rows.specs.State.{AreHistories, are_own, own_latest, one_more};
 ghost use Rattle.qu_versions.specs.Versions.{version_at};
-ghost use Rattle.qu_rows.specs.Rows.{seen_of};
+ghost use Rattle.qu_rows.specs.Rows.{seen_each, objects_of};
 
 mod acting;
 mod bases;
@@ -111,8 +111,7 @@ impl<'a> Rows<'a> {
 
     /// What the request's sets show of the objects of these parts.
     pub fn seen<X>(&self, asked: &Asked, parts: &[(ObjectId, X)]) -> Result<List<Seen>, NoMemory>
-        ensures value { IfOk result (λ seen. seen
-            ≡ map (λ part. seen_of self.now asked.now part.0) parts.now) }
+        ensures value { IfOk result (λ seen. seen ≡ seen_each self.now asked.now (objects_of parts.now)) }
         ensures one_each { IfOk result (λ seen. length seen ≡ length parts.now) }
     {
         let mut seen = List::new(self.alloc);

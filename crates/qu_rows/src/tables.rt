@@ -1,9 +1,7 @@
-ghost use Rattle.std.specs.Prelude.{◌≡◌, length, None, IfOk, IfNone, IsTrue};
-ghost use Rattle.std.specs.Option.{option_or};
+ghost use Rattle.std.specs.Prelude.{◌≡◌, length, None, IfOk, IsTrue};
 ghost use Rattle.qu_objects.specs.Parts.{are_parts};
 ghost use Rattle.qu_rows.specs.Allowed.{MayDecide};
-ghost use Rattle.qu_rows.specs.Rows.{row_unknown, row_thin, decide_act, decide_ask, decide_repair, decision_on, objects_of};
-ghost use Rattle.qu_rows.specs.SeenRows.{AreOperated, versions_under, base_keys, current_on, method_on, version_on, act_upon, ask_upon};
+ghost use Rattle.qu_rows.specs.Rows.{AreOperated, seen_each, objects_of, row_unknown, row_thin, decide_act, decide_ask, decide_repair, decision_on};
 
 use crate::asked::Asked;
 use crate::decision::{Decision, refuse};
@@ -46,7 +44,7 @@ fn decide_act(alloc: Global, rows: &Rows, asked: &Asked, act: &Act) -> Result<De
 }
 
 /// What it makes of an act on objects that its sets show so.
-#[tactic(auto, unfolding(crate::specs::SeenRows::act_upon, qu_mends::specs::Table::first_given))]
+#[tactic(auto, unfolding(crate::specs::Rows::decide_act, qu_mends::specs::Table::first_given))]
 fn decide_act_on(
     alloc: Global,
     rows: &Rows,
@@ -55,18 +53,25 @@ fn decide_act_on(
     seen: &[Seen],
 ) -> Result<Decision, NoMemory>
     requires known { row_unknown rows.now asked.now ≡ None }
+    requires seen { seen.now ≡ seen_each rows.now asked.now (objects_of act.now) }
     requires one_each { length seen.now ≡ length act.now }
     requires objects { AreOperated seen.now }
-    ensures { IfOk result (λ decision. decision ≡ act_upon rows.now asked.now act.now seen.now) }
+    ensures { IfOk result (λ decision. decision ≡ decide_act rows.now asked.now act.now (objects_of act.now)) }
 {
     if let Some(refusal) = row_thin(alloc, rows, asked) {
         return Ok(refusal);
     }
-    if let Some(kept) = rows.row_retry(asked, act, seen)? {
-        return Ok(kept);
+    if let Some(done) = rows.row_retry(asked, act, seen)? {
+        return Ok(done);
     }
-    if let Some(decision) = rows_of_base(alloc, rows, seen)? {
-        return Ok(decision);
+    if let Some(refusal) = rows.row_current(seen) {
+        return Ok(refusal);
+    }
+    if let Some(refusal) = row_method(alloc, seen) {
+        return Ok(refusal);
+    }
+    if let Some(waits) = rows.row_version(seen)? {
+        return Ok(waits);
     }
     let before = rows.base_versions(seen)?;
     if let Some(kept) = row_kept(alloc, asked, act, before.as_slice())? {
@@ -98,7 +103,7 @@ fn decide_ask(
 }
 
 /// What it makes of a query of objects that its sets show so.
-#[tactic(auto, unfolding(crate::specs::SeenRows::ask_upon, qu_mends::specs::Table::first_given))]
+#[tactic(auto, unfolding(crate::specs::Rows::decide_ask, qu_mends::specs::Table::first_given))]
 fn decide_ask_on(
     alloc: Global,
     rows: &Rows,
@@ -107,20 +112,28 @@ fn decide_ask_on(
     seen: &[Seen],
 ) -> Result<Decision, NoMemory>
     requires known { row_unknown rows.now asked.now ≡ None }
+    requires seen { seen.now ≡ seen_each rows.now asked.now (objects_of query.now) }
     requires one_each { length seen.now ≡ length query.now }
-    ensures { IfOk result (λ decision. decision ≡ ask_upon rows.now asked.now query.now seen.now) }
+    ensures { IfOk result (λ decision. decision
+        ≡ decide_ask rows.now asked.now query.now (objects_of query.now)) }
 {
     if let Some(refusal) = row_thin(alloc, rows, asked) {
         return Ok(refusal);
     }
-    if let Some(decision) = rows_of_base(alloc, rows, seen)? {
-        return Ok(decision);
+    if let Some(refusal) = rows.row_current(seen) {
+        return Ok(refusal);
+    }
+    if let Some(refusal) = row_method(alloc, seen) {
+        return Ok(refusal);
+    }
+    if let Some(waits) = rows.row_version(seen)? {
+        return Ok(waits);
     }
     rows.row_told(query, seen)
 }
 
 /// What it makes of a request to mend an object.
-#[tactic(auto, unfolding(crate::specs::Rows::decide_repair, qu_mends::specs::Table::first_given))]
+#[tactic(auto, unfolding(crate::specs::Rows::decide_repair, crate::specs::Rows::row_evidence, qu_mends::specs::Table::first_given))]
 fn decide_repair(
     alloc: Global,
     rows: &Rows,
@@ -133,7 +146,14 @@ fn decide_repair(
     if let Some(refusal) = row_thin(alloc, rows, asked) {
         return Ok(refusal);
     }
-    rows.rows_of_repair(asked, target)
+    if let Some(refusal) = rows.row_few(asked, target) {
+        return Ok(refusal);
+    }
+    let evidence = rows.evidence(asked, target)?;
+    if let Some(waits) = rows.row_evidence(evidence.as_slice())? {
+        return Ok(waits);
+    }
+    rows.mend(asked, target, evidence.as_slice())
 }
 
 /// Refuses sets with fewer entries of an object than a quorum.
@@ -148,18 +168,4 @@ fn row_thin(alloc: Global, rows: &Rows, asked: &Asked) -> Option<Decision>
         .iter()
         .find(|set| set.entries.len() < quorum)?;
     Some(refuse(alloc, Refusal::Thin(set.object)))
-}
-
-/// The rows that look for the versions upon which an operation on these objects may rest.
-fn rows_of_base(alloc: Global, rows: &Rows, seen: &[Seen]) -> Result<Option<Decision>, NoMemory>
-    ensures versions { IfOk result (λ row. IfNone row
-        (length (versions_under rows.now (base_keys seen.now)) ≡ length seen.now)) }
-    ensures value { IfOk result (λ row. row ≡ option_or (current_on rows.now seen.now)
-        (option_or (method_on seen.now) (version_on rows.now seen.now))) }
-{
-    let refused = rows.row_current(seen).or(row_method(alloc, seen));
-    match refused {
-        Some(refusal) => Ok(Some(refusal)),
-        None => rows.row_version(seen),
-    }
 }

@@ -1,29 +1,22 @@
 -- What a replica makes of a request depends on its name, its keys, its histories and its versions alone.
-use Rattle.std.proofs.Common.{◌≡◌, ℕ, ◌<◌, Bool, true, false, cond, List, [], ◌∷◌, ◌++◌, map, length, Option, None, Some, refl, sym, ap, subst, ◌∙◌}
+use Rattle.std.proofs.Common.{◌≡◌, ℕ, ◌<◌, Bool, true, false, cond, List, [], ◌∷◌, ◌++◌, length, Option, None, Some, refl, sym, ap, subst, ◌∙◌}
 use Rattle.std.specs.Prelude.{find, is_none, nat_le, slice_get}
 use Rattle.std.proofs.lemmas.List.{append-nil}
 use Rattle.qu_base.specs.declared.party.ClientId.{ClientId}
-use Rattle.qu_base.specs.declared.party.ObjectId.{ObjectId}
 use Rattle.qu_stamp.specs.Stamp.{is_below}
 use Rattle.qu_history.specs.declared.limits.TheConstants.{HISTORY_LIMIT}
 use Rattle.qu_history.specs.declared.sets.SetOf.{SetOf}
 use Rattle.qu_history.specs.History.{ObjectHistory, latest}
 use Rattle.qu_history.specs.Culling.{culled, left_out}
-use Rattle.qu_objects.specs.declared.act.Method.{Method}
-use Rattle.qu_objects.specs.declared.state.ObjState.{ObjState}
-use Rattle.qu_objects.specs.Performing.{performed_answer}
-use Rattle.qu_kept.specs.Performing.{values_of, performed_states}
 use Rattle.qu_frames.specs.declared.frame.Body.{Body}
 use Rattle.qu_frames.specs.declared.frame.Body.TheVariants as body
 use Rattle.qu_verdicts.specs.declared.verdict.Verdict.{Verdict}
-use Rattle.qu_verdicts.specs.declared.verdict.Verdict.TheVariants.{Done}
 use Rattle.qu_versions.specs.declared.stored.Stored.{Stored}
 use Rattle.qu_versions.specs.Versions.{has_version}
 use Rattle.qu_mends.specs.declared.accepted.Accepted.{Accepted}
 use Rattle.qu_rows.specs.declared.decision.Decision.{Decision}
 use Rattle.qu_rows.specs.declared.decision.Decision.TheVariants.{Answers, Waits}
-use Rattle.qu_rows.specs.Rows.{Asked, asked_of, asked_at, fresh_group, fresh_act, fresh_stamp, fresh_stamps, is_held, row_unknown, row_thin, row_retry, row_current, row_method, row_version, row_kept, row_time, row_full, row_done, row_told, row_few, row_evidence, accepted_by, base_versions, objects_of, decide_act, decide_ask, decide_repair, decision_on}
-use Rattle.qu_mends.specs.Table.{first_given}
+use Rattle.qu_rows.specs.Rows.{Asked, asked_of, asked_at, is_held, row_unknown, row_thin, row_retry, row_current, row_version, row_full, row_few, row_evidence, decide_act, decide_ask, decide_repair, decision_on}
 use Rattle.qu_waiting.specs.Waiting.{TakenRequest}
 use Rattle.qu_rows.specs.State.{ReplicaState, without_waiting, one_more}
 use Rattle.qu_mends.specs.Table.{candidates_in}
@@ -35,45 +28,10 @@ use Rattle.qu_replica.specs.Step.{shown, reply, with_found, carried_out, decided
 
 -- ---- decisions
 
-accepted_bare : (state : ReplicaState) (asked : Asked) (group : List (ObjectId × ℕ)) (objects : List ObjectId)
-    (versions : List ObjState) → accepted_by state asked group objects versions
-    ≡ accepted_by (without_waiting state) asked group objects versions
-unfolding accepted_by
-accepted_bare state asked group [] versions = refl
-accepted_bare state asked group (object ∷ objects) [] = refl
-accepted_bare state asked group (object ∷ objects) (version ∷ versions) =
-    ap (λ (later : List Accepted). elim (fresh_act state asked group object) [
-      | None ↦ later
-      | Some fresh ↦ record { object = object; candidate = fresh; state = Some version } ∷ later
-    ]) (accepted_bare state asked group objects versions)
-
-done_bare : (state : ReplicaState) (asked : Asked) (parts : List (ObjectId × Method)) (objects : List ObjectId)
-    → row_done state asked parts objects ≡ row_done (without_waiting state) asked parts objects
-unfolding row_done
-done_bare state asked parts objects =
-    let before : List ObjState = base_versions state asked objects in
-    ap (λ (accepted : List Accepted). Some (Answers
-    (Done (fresh_stamps state asked objects) (performed_answer parts (values_of before))) accepted))
-    (accepted_bare state asked (fresh_group asked objects) objects
-    (performed_states asked.client asked.number parts (map (fresh_stamp asked) objects) before))
-
 decides_bare : (state : ReplicaState) (asked : Asked) (asks : Body)
     → decision_on state asked asks ≡ decision_on (without_waiting state) asked asks
-unfolding decide_act decide_ask decide_repair row_unknown row_thin row_retry row_current row_method row_version row_kept row_time row_full row_told row_few row_evidence is_held
-decides_bare state asked (body.Act parts) =
-    ap (λ (row : Option Decision). first_given (Waits []) (
-    row_unknown state asked
-    ∷ row_thin state asked
-    ∷ row_retry state asked parts (objects_of parts)
-    ∷ row_current state asked (objects_of parts)
-    ∷ row_method state asked (objects_of parts)
-    ∷ row_version state asked (objects_of parts)
-    ∷ row_kept state asked parts (objects_of parts)
-    ∷ row_time state asked (objects_of parts)
-    ∷ row_full state asked (objects_of parts)
-    ∷ row
-    ∷ []
-    )) (done_bare state asked parts (objects_of parts))
+unfolding decide_act decide_ask decide_repair row_unknown row_thin row_retry row_current row_version row_full row_few row_evidence is_held
+decides_bare state asked (body.Act parts) = refl
 decides_bare state asked (body.Ask parts) = refl
 decides_bare state asked (body.Mend target) = refl
 

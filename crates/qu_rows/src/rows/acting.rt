@@ -5,8 +5,7 @@ ghost use Rattle.qu_stamp.specs.declared.limits.TheConstants.{LAST_TIME};
 ghost use Rattle.qu_stamp.specs.Stamp.{is_below};
 ghost use Rattle.qu_rows.specs.State.{own_candidates, own_latest};
 ghost use Rattle.qu_mends.specs.Table.{has_no_room};
-ghost use Rattle.qu_rows.specs.Rows.{class_code, unknown_in, unknown_refused, standing_in, repeated};
-ghost use Rattle.qu_rows.specs.SeenRows.{version_seen, versions_under, base_keys, current_on, method_on, version_on, kept_by, time_on, full_on, told_on};
+ghost use Rattle.qu_rows.specs.Rows.{class_code, unknown_in, unknown_refused, standing_in, repeated, version_seen, base_versions, row_current, row_method, row_version, row_kept, row_time, row_full, row_told};
 
 use super::Rows;
 use super::bases::base_keys;
@@ -37,9 +36,9 @@ impl<'a> Rows<'a> {
     }
 
     /// Refuses sets that do not show the replica's own latest candidate of each object.
-    #[tactic(auto, unfolding(crate::specs::SeenRows::current_on))]
+    #[tactic(auto, unfolding(crate::specs::Rows::row_current))]
     pub fn row_current(&self, seen: &[Seen]) -> Option<Decision>
-        ensures { result ≡ current_on self.now seen.now }
+        ensures { result ≡ row_current self.now seen.now }
     {
         let late = self.first_late(seen)?;
         let own = self.own_latest(late.object);
@@ -55,11 +54,11 @@ impl<'a> Rows<'a> {
     }
 
     /// Waits for the versions that are missing upon which the operation rests.
-    #[tactic(auto, using(crate::proofs::Shown::versions_whole), unfolding(crate::specs::SeenRows::version_on))]
+    #[tactic(auto, using(crate::proofs::Shown::versions_whole), unfolding(crate::specs::Rows::row_version))]
     pub fn row_version(&self, seen: &[Seen]) -> Result<Option<Decision>, NoMemory>
         ensures versions { IfOk result (λ row. IfNone row
-            (length (versions_under self.now (base_keys seen.now)) ≡ length seen.now)) }
-        ensures value { IfOk result (λ row. row ≡ version_on self.now seen.now) }
+            (length (base_versions self.now seen.now) ≡ length seen.now)) }
+        ensures value { IfOk result (λ row. row ≡ row_version self.now seen.now) }
     {
         if !self.lacks_version(seen) {
             return Ok(None);
@@ -78,7 +77,7 @@ impl<'a> Rows<'a> {
     }
 
     /// The version upon which an operation on the object rests, where the replica has it.
-    fn version_seen(&self, one: &Seen) -> Option<&'a ObjState>
+    pub(super) fn version_seen(&self, one: &Seen) -> Option<&'a ObjState>
         ensures { option_copied result ≡ version_seen self.now one.now }
     {
         match &one.method {
@@ -88,9 +87,9 @@ impl<'a> Rows<'a> {
     }
 
     /// Refuses objects whose history is full.
-    #[tactic(auto, unfolding(crate::specs::SeenRows::full_on))]
+    #[tactic(auto, unfolding(crate::specs::Rows::row_full))]
     pub fn row_full(&self, seen: &[Seen]) -> Option<Decision>
-        ensures { result ≡ full_on self.now seen.now }
+        ensures { result ≡ row_full self.now seen.now }
     {
         let full = self.first_full(seen)?;
         Some(refuse(self.alloc, Refusal::HistoryFull(full.object)))
@@ -114,14 +113,15 @@ impl<'a> Rows<'a> {
     }
 
     /// Answers the query from the versions on which it rests.
-    #[tactic(auto, unfolding(crate::specs::SeenRows::told_on))]
+    #[tactic(auto, unfolding(crate::specs::Rows::row_told))]
     pub fn row_told(&self, query: &Query, seen: &[Seen]) -> Result<Decision, NoMemory>
         requires one_each { length seen.now ≡ length query.now }
-        requires versions { length (versions_under self.now (base_keys seen.now)) ≡ length seen.now }
-        ensures { IfOk result (λ decision. told_on self.now query.now seen.now ≡ Some decision) }
+        requires versions { length (base_versions self.now seen.now) ≡ length seen.now }
+        ensures { IfOk result (λ decision. row_told query.now seen.now (base_versions self.now seen.now)
+            ≡ Some decision) }
     {
         let stamps = base_keys(self.alloc, seen)?;
-        let values = self.values_under(stamps.as_slice())?;
+        let values = self.base_values(seen)?;
         let answer = tell_all(self.alloc, values.as_slice(), query)?;
         Ok(Decision::Answers {
             verdict: Verdict::Told { stamps, answer },
@@ -131,9 +131,9 @@ impl<'a> Rows<'a> {
 }
 
 /// Refuses objects upon which no operation may rest.
-#[tactic(auto, unfolding(crate::specs::SeenRows::method_on))]
+#[tactic(auto, unfolding(crate::specs::Rows::row_method))]
 pub fn row_method(alloc: Global, seen: &[Seen]) -> Option<Decision>
-    ensures { result ≡ method_on seen.now }
+    ensures { result ≡ row_method seen.now }
 {
     let other = first_other(seen)?;
     let class = class_code(&other.class).unwrap_or(ClassCode::Barrier);
@@ -149,24 +149,24 @@ fn first_other(seen: &[Seen]) -> Option<&Seen>
 
 /// Tells the answer of an act that was performed before, and refuses one whose number is spent, by the versions on
 /// which it rests.
-#[tactic(auto, unfolding(crate::specs::SeenRows::kept_by))]
+#[tactic(auto, unfolding(crate::specs::Rows::row_kept))]
 pub fn row_kept(
     alloc: Global,
     asked: &Asked,
     act: &Act,
     before: &[ObjState],
 ) -> Result<Option<Decision>, NoMemory>
-    ensures { IfOk result (λ row. row ≡ kept_by asked.now act.now before.now) }
+    ensures { IfOk result (λ row. row ≡ row_kept asked.now act.now before.now) }
 {
     let standing = standing_in(alloc, asked, act, before)?;
     Ok(repeated(alloc, standing))
 }
 
 /// Refuses objects whose time is spent.
-#[tactic(auto, unfolding(crate::specs::SeenRows::time_on))]
+#[tactic(auto, unfolding(crate::specs::Rows::row_time))]
 pub fn row_time(alloc: Global, seen: &[Seen]) -> Option<Decision>
     ensures in_time { IfNone result (All (λ one. one.latest.time < LAST_TIME) seen.now) }
-    ensures value { result ≡ time_on seen.now }
+    ensures value { result ≡ row_time seen.now }
 {
     let spent = first_spent(seen)?;
     Some(refuse(alloc, Refusal::TimeSpent(spent.object)))

@@ -1,7 +1,6 @@
 ghost use Rattle.std.specs.Prelude.{◌≡◌, IfOk};
 ghost use Rattle.qu_kept.specs.Performing.{values_of};
-ghost use Rattle.qu_rows.specs.Rows.{missing_of};
-ghost use Rattle.qu_rows.specs.SeenRows.{base_keys, versions_under};
+ghost use Rattle.qu_rows.specs.Rows.{base_versions, base_keys, missing_of, versions_under};
 
 use super::Rows;
 use qu_base::{List, NoMemory, ObjectId};
@@ -13,11 +12,31 @@ use std::alloc::Global;
 // The versions upon which an operation rests, in the order of its parts.
 impl<'a> Rows<'a> {
     /// The versions upon which it rests, where the replica has them.
+    #[tactic(auto, using(crate::proofs::Keeping::keeping))]
     pub fn base_versions(&self, seen: &[Seen]) -> Result<List<ObjState>, NoMemory>
-        ensures { IfOk result (λ versions. versions ≡ versions_under self.now (base_keys seen.now)) }
+        ensures { IfOk result (λ versions. versions ≡ base_versions self.now seen.now) }
     {
-        let bases = base_keys(self.alloc, seen)?;
-        self.versions_under(bases.as_slice())
+        let mut versions = List::new(self.alloc);
+        for one in seen {
+            if let Some(version) = self.version_seen(one) {
+                versions.push(version.copy(self.alloc)?)?;
+            }
+        }
+        Ok(versions)
+    }
+
+    /// Their values.
+    #[tactic(auto, using(crate::proofs::Keeping::keeping))]
+    pub(super) fn base_values(&self, seen: &[Seen]) -> Result<List<Value>, NoMemory>
+        ensures { IfOk result (λ values. values ≡ values_of (base_versions self.now seen.now)) }
+    {
+        let mut values = List::new(self.alloc);
+        for one in seen {
+            if let Some(version) = self.version_seen(one) {
+                values.push(version.value.copy(self.alloc)?)?;
+            }
+        }
+        Ok(values)
     }
 
     /// Those of the versions under these stamps that the replica lacks.
@@ -51,20 +70,6 @@ impl<'a> Rows<'a> {
             }
         }
         Ok(versions)
-    }
-
-    /// Their values.
-    #[tactic(auto, using(crate::proofs::Keeping::keeping))]
-    pub(super) fn values_under(&self, keys: &[(ObjectId, Stamp)]) -> Result<List<Value>, NoMemory>
-        ensures { IfOk result (λ values. values ≡ values_of (versions_under self.now keys.now)) }
-    {
-        let mut values = List::new(self.alloc);
-        for key in keys {
-            if let Some(version) = self.version(key.0, &key.1) {
-                values.push(version.value.copy(self.alloc)?)?;
-            }
-        }
-        Ok(values)
     }
 }
 

@@ -1,7 +1,7 @@
-ghost use Rattle.std.specs.Prelude.{◌≡◌, ◌<◌, length, map, IfOk, Some};
+ghost use Rattle.std.specs.Prelude.{◌≡◌, ◌<◌, length, IfOk, Some};
 ghost use Rattle.std.specs.List.{All};
 ghost use Rattle.qu_stamp.specs.declared.limits.TheConstants.{LAST_TIME};
-ghost use Rattle.qu_rows.specs.SeenRows.{AreOperated, stamp_seen, fresh_seen, members_seen, group_seen, fresh_keys, accepted_on, done_by};
+ghost use Rattle.qu_rows.specs.Rows.{AreOperated, stamp_after, fresh_candidate, members_seen, group_seen, fresh_stamps, fresh_keys, accepted_by, row_done};
 
 use crate::asked::Asked;
 use crate::decision::Decision;
@@ -14,6 +14,7 @@ use qu_stamp::{Candidate, Group, Stamp};
 use std::alloc::Global;
 
 /// Performs the act upon the versions on which it rests, and accepts all its candidates.
+#[tactic(auto, unfolding(crate::specs::Rows::row_done))]
 pub fn row_done(
     alloc: Global,
     asked: &Asked,
@@ -25,7 +26,7 @@ pub fn row_done(
     requires versions { length before.now ≡ length act.now }
     requires objects { AreOperated seen.now }
     requires in_time { All (λ one. one.latest.time < LAST_TIME) seen.now }
-    ensures { IfOk result (λ decision. done_by asked.now act.now seen.now before.now ≡ Some decision) }
+    ensures { IfOk result (λ decision. row_done asked.now act.now seen.now before.now ≡ Some decision) }
 {
     let stamps = fresh_stamps(alloc, asked, seen)?;
     let Performed { states, answer } = perform(
@@ -51,7 +52,7 @@ pub fn row_done(
 /// The stamps of the candidates that the act makes.
 fn fresh_stamps(alloc: Global, asked: &Asked, seen: &[Seen]) -> Result<List<Stamp>, NoMemory>
     requires { All (λ one. one.latest.time < LAST_TIME) seen.now }
-    ensures value { IfOk result (λ stamps. stamps ≡ map (stamp_seen asked.now) seen.now) }
+    ensures value { IfOk result (λ stamps. stamps ≡ fresh_stamps asked.now seen.now) }
     ensures one_each { IfOk result (λ stamps. length stamps ≡ length seen.now) }
 {
     let mut stamps = List::new(alloc);
@@ -62,8 +63,7 @@ fn fresh_stamps(alloc: Global, asked: &Asked, seen: &[Seen]) -> Result<List<Stam
 }
 
 /// The objects, each with the stamp of its candidate.
-#[tactic(auto, using(crate::proofs::Keeping::keeping))]
-fn fresh_keys(
+pub(super) fn fresh_keys(
     alloc: Global,
     asked: &Asked,
     seen: &[Seen],
@@ -73,9 +73,7 @@ fn fresh_keys(
 {
     let mut keys = List::new(alloc);
     for one in seen {
-        if one.method.is_some() {
-            keys.push((one.object, fresh_stamp(asked, one)))?;
-        }
+        keys.push((one.object, fresh_stamp(asked, one)))?;
     }
     Ok(keys)
 }
@@ -119,7 +117,7 @@ fn accept_each(
     states: List<ObjState>,
 ) -> Result<List<Accepted>, NoMemory>
     requires { All (λ one. one.latest.time < LAST_TIME) seen.now }
-    ensures { IfOk result (λ accepted. accepted ≡ accepted_on asked.now group.now seen.now states) }
+    ensures { IfOk result (λ accepted. accepted ≡ accepted_by asked.now group.now seen.now states) }
 {
     let mut accepted = List::new(alloc);
     for (one, state) in seen.iter().zip(states.into_vec()) {
@@ -137,7 +135,7 @@ fn accept_each(
 /// The candidate that an act makes on the object with this group, where it may rest upon one.
 pub(super) fn fresh_candidate(asked: &Asked, group: &Group, one: &Seen) -> Option<Candidate>
     requires { one.now.latest.time < LAST_TIME }
-    ensures { result ≡ fresh_seen asked.now group.now one.now }
+    ensures { result ≡ fresh_candidate asked.now group.now one.now }
 {
     match one.method {
         Some(base) => Some(Candidate {
@@ -152,7 +150,7 @@ pub(super) fn fresh_candidate(asked: &Asked, group: &Group, one: &Seen) -> Optio
 /// Its stamp.
 fn fresh_stamp(asked: &Asked, one: &Seen) -> Stamp
     requires { one.now.latest.time < LAST_TIME }
-    ensures { result ≡ stamp_seen asked.now one.now }
+    ensures { result ≡ stamp_after asked.now one.now.latest }
 {
     Stamp {
         time: one.latest.time + 1,

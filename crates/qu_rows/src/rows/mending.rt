@@ -1,4 +1,4 @@
-ghost use Rattle.std.specs.Prelude.{◌≡◌, ◌≤◌, [], length, map, None, IfOk, IfNone};
+ghost use Rattle.std.specs.Prelude.{◌≡◌, ◌≤◌, length, map, IfOk, IfNone};
 ghost use Rattle.std.specs.Option.{option_copied};
 ghost use Rattle.qu_base.specs.Bounds.{quorum};
 ghost use Rattle.qu_class.specs.Class.{is_copy, class_in};
@@ -6,7 +6,7 @@ ghost use Rattle.qu_plan.specs.Linking.{linking};
 ghost use Rattle.qu_verdicts.specs.declared.verdict.Verdict.TheVariants.{Mended};
 ghost use Rattle.qu_mends.specs.Remedy.{course_of};
 ghost use Rattle.qu_rows.specs.declared.decision.Decision.TheVariants.{Answers};
-ghost use Rattle.qu_rows.specs.Rows.{shown_of, row_few, linking_of, evidence_for, waits_for, row_evidence, facts_of, wanted_version, part_of, mending_on, decision_by, decide_repair, row_unknown, row_thin};
+ghost use Rattle.qu_rows.specs.Rows.{shown_of, row_few, linking_of, missing_of, evidence_for, waits_for, facts_of, wanted_version, part_of, mending_on, decision_by};
 
 use super::Rows;
 use crate::asked::Asked;
@@ -24,29 +24,9 @@ use std::alloc::Global;
 
 // The rows of a request to mend an object.
 impl<'a> Rows<'a> {
-    /// What it makes of a request to mend an object, where no object of the sets is unknown or thin.
-    #[tactic(auto, unfolding(crate::specs::Rows::decide_repair, crate::specs::Rows::row_evidence, qu_mends::specs::Table::first_given))]
-    pub fn rows_of_repair(&self, asked: &Asked, target: ObjectId) -> Result<Decision, NoMemory>
-        requires known { row_unknown self.now asked.now ≡ None }
-        requires enough { row_thin self.now asked.now ≡ None }
-        ensures { IfOk result (λ decision. decision ≡ decide_repair self.now asked.now target) }
-    {
-        if let Some(refusal) = self.row_few(asked, target) {
-            return Ok(refusal);
-        }
-        let keys = self.evidence(asked, target)?;
-        let missing = self.missing(keys.as_slice())?;
-        if let Some(waits) = waits_for(missing) {
-            return Ok(waits);
-        }
-        let facts = self.facts(keys.as_slice())?;
-        let mending = self.mending(asked, target, facts.as_slice())?;
-        Ok(decision_by(self.alloc, target, mending))
-    }
-
     /// Refuses to mend an object of which the sets show fewer entries than a quorum.
     #[tactic(auto, unfolding(crate::specs::Rows::row_few))]
-    fn row_few(&self, asked: &Asked, target: ObjectId) -> Option<Decision>
+    pub fn row_few(&self, asked: &Asked, target: ObjectId) -> Option<Decision>
         ensures enough { IfNone result (quorum self.now.keys.bounds ≤ length (shown_of asked.now target)) }
         ensures value { result ≡ row_few self.now asked.now target }
     {
@@ -58,7 +38,11 @@ impl<'a> Rows<'a> {
     }
 
     /// The versions that decide how the target is mended.
-    fn evidence(&self, asked: &Asked, target: ObjectId) -> Result<List<(ObjectId, Stamp)>, NoMemory>
+    pub fn evidence(
+        &self,
+        asked: &Asked,
+        target: ObjectId,
+    ) -> Result<List<(ObjectId, Stamp)>, NoMemory>
         ensures { IfOk result (λ keys. keys ≡ evidence_for self.now asked.now target) }
     {
         let bounds = self.keys.bounds();
@@ -67,6 +51,30 @@ impl<'a> Rows<'a> {
         } else {
             Ok(List::new(self.alloc))
         }
+    }
+
+    /// Waits for those that are missing.
+    pub fn row_evidence(&self, keys: &[(ObjectId, Stamp)]) -> Result<Option<Decision>, NoMemory>
+        ensures { IfOk result (λ row. row ≡ waits_for (missing_of self.now keys.now)) }
+    {
+        let missing = self.missing(keys)?;
+        Ok(waits_for(missing))
+    }
+
+    /// What it makes of a request to mend an object that has a quorum of entries, where this is the evidence.
+    pub fn mend(
+        &self,
+        asked: &Asked,
+        target: ObjectId,
+        keys: &[(ObjectId, Stamp)],
+    ) -> Result<Decision, NoMemory>
+        requires enough { quorum self.now.keys.bounds ≤ length (shown_of asked.now target) }
+        requires evidence { keys.now ≡ evidence_for self.now asked.now target }
+        ensures { IfOk result (λ decision. decision ≡ decision_by target (mending_on self.now asked.now target)) }
+    {
+        let facts = self.facts(keys)?;
+        let mending = self.mending(asked, target, facts.as_slice())?;
+        Ok(decision_by(self.alloc, target, mending))
     }
 
     /// What the versions under these keys tell of other objects, where the replica has them.

@@ -1,7 +1,7 @@
-ghost use Rattle.std.specs.Prelude.{◌≡◌, ◌<◌, IfOk, IsSome, IfSome, Some, IsTrue, ◌↔◌};
+ghost use Rattle.std.specs.Prelude.{◌≡◌, ◌<◌, if◌then◌else◌, IfOk, IsSome, IfSome, Some, None, IsTrue, ◌↔◌};
+ghost use Rattle.std.specs.List.{list_all};
 ghost use Rattle.qu_stamp.specs.declared.limits.TheConstants.{LAST_TIME};
-ghost use Rattle.qu_rows.specs.Rows.{done_again};
-ghost use Rattle.qu_rows.specs.SeenRows.{AreOperated, fresh_seen, held_on, held_keys, again_by, retry_on};
+ghost use Rattle.qu_rows.specs.Rows.{AreOperated, group_seen, fresh_keys, fresh_candidate, is_held, standing_in, done_again, row_retry};
 
 use super::Rows;
 use super::acting::{first_spent, standing_in};
@@ -19,7 +19,7 @@ use std::alloc::Global;
 // The row of an act that was performed before under these very stamps.
 impl<'a> Rows<'a> {
     /// Tells the kept answer where the replica holds all candidates of the act already.
-    #[tactic(auto, unfolding(crate::specs::SeenRows::retry_on))]
+    #[tactic(auto, unfolding(crate::specs::Rows::row_retry))]
     pub fn row_retry(
         &self,
         asked: &Asked,
@@ -27,7 +27,7 @@ impl<'a> Rows<'a> {
         seen: &[Seen],
     ) -> Result<Option<Decision>, NoMemory>
         requires { AreOperated seen.now }
-        ensures { IfOk result (λ row. row ≡ retry_on self.now asked.now act.now seen.now) }
+        ensures { IfOk result (λ row. row ≡ row_retry self.now asked.now act.now seen.now) }
     {
         let held = self.held_keys(asked, seen)?;
         match held {
@@ -48,7 +48,9 @@ impl<'a> Rows<'a> {
         seen: &[Seen],
     ) -> Result<Option<List<(ObjectId, Stamp)>>, NoMemory>
         requires { AreOperated seen.now }
-        ensures { IfOk result (λ held. held ≡ held_keys self.now asked.now seen.now) }
+        ensures { IfOk result (λ held. held
+            ≡ if list_all (is_held self.now asked.now (group_seen asked.now seen.now)) seen.now
+            then Some (fresh_keys asked.now seen.now) else None) }
     {
         let alloc = self.alloc;
         if first_spent(seen).is_some() {
@@ -66,11 +68,11 @@ impl<'a> Rows<'a> {
     }
 
     /// The candidate that the act makes on an object with this group, where the replica holds it.
-    #[tactic(auto, unfolding(crate::specs::SeenRows::held_on))]
+    #[tactic(auto, unfolding(crate::specs::Rows::is_held))]
     fn held_fresh(&self, asked: &Asked, group: &Group, one: &Seen) -> Option<Candidate>
         requires { one.now.latest.time < LAST_TIME }
-        ensures held { IsSome result ↔ IsTrue (held_on self.now asked.now group.now one.now) }
-        ensures value { IfSome result (λ fresh. fresh_seen asked.now group.now one.now ≡ Some fresh) }
+        ensures held { IsSome result ↔ IsTrue (is_held self.now asked.now group.now one.now) }
+        ensures value { IfSome result (λ fresh. fresh_candidate asked.now group.now one.now ≡ Some fresh) }
     {
         let history = self.history(one.object)?;
         let fresh = fresh_candidate(asked, group, one)?;
@@ -83,7 +85,6 @@ impl<'a> Rows<'a> {
 }
 
 /// The decision upon a retry, by the stamps of its candidates and what their versions keep.
-#[tactic(auto, unfolding(crate::specs::SeenRows::again_by))]
 fn again(
     alloc: Global,
     asked: &Asked,
@@ -91,7 +92,8 @@ fn again(
     stamps: List<(ObjectId, Stamp)>,
     versions: &[ObjState],
 ) -> Result<Option<Decision>, NoMemory>
-    ensures { IfOk result (λ row. row ≡ again_by asked.now act.now stamps versions.now) }
+    ensures { IfOk result (λ row. row
+        ≡ done_again stamps (standing_in asked.now act.now versions.now)) }
 {
     let standing = standing_in(alloc, asked, act, versions)?;
     Ok(done_again(alloc, stamps, standing))

@@ -1,5 +1,5 @@
 use Rattle.std.proofs.Common.{◌≡◌, take}
-use Rattle.qu_rows.specs.SeenRows.{versions_under}
+use Rattle.qu_rows.specs.Rows.{versions_under}
 use Rattle.qu_rows.proofs.rows.Rows.versions_under.Given as goal
 
 abbrev pub invariant-loop-key : goal.invariant-loop-key

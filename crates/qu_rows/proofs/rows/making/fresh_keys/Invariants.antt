@@ -1,5 +1,5 @@
 use Rattle.std.proofs.Common.{◌≡◌, take}
-use Rattle.qu_rows.specs.SeenRows.{fresh_keys}
+use Rattle.qu_rows.specs.Rows.{fresh_keys}
 use Rattle.qu_rows.proofs.rows.making.fresh_keys.Given as goal
 
 abbrev pub invariant-loop-one : goal.invariant-loop-one

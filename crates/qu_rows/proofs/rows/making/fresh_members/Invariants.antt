@@ -1,5 +1,5 @@
 use Rattle.std.proofs.Common.{◌≡◌, take}
-use Rattle.qu_rows.specs.SeenRows.{members_seen}
+use Rattle.qu_rows.specs.Rows.{members_seen}
 use Rattle.qu_rows.proofs.rows.making.fresh_members.Given as goal
 
 abbrev pub invariant-loop-one : goal.invariant-loop-one

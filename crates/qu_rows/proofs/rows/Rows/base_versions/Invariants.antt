@@ -1,0 +1,6 @@
+use Rattle.std.proofs.Common.{◌≡◌, take}
+use Rattle.qu_rows.specs.Rows.{base_versions}
+use Rattle.qu_rows.proofs.rows.Rows.base_versions.Given as goal
+
+abbrev pub invariant-loop-one : goal.invariant-loop-one
+invariant-loop-one l = l.versions ≡ base_versions l.self (take l.one-index l.seen)
