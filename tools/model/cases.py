@@ -9,7 +9,7 @@ from model.happening import Happening, NotKnown
 from model.judge import verdict_on
 from model.listing import ListedWorld
 from model.player import run_of
-from model.report import byte_lines, letter_lines, premises_line, report_lines
+from model.report import audited, byte_lines, letter_lines, premises_line, report_lines, sum_line
 from model.told_bytes import FORMS, change_lines, exact_lines, told_digest, told_text
 from model.values import Party
 from model.world import Refused
@@ -19,6 +19,8 @@ FOLDER = os.path.join(TOP, "crates", "qu_cases", "data", "cases")
 # The file with the names that all topics use.
 NAMES = "names"
 CLIENT = re.compile(r"c(\d+)")
+# The words of `qu` that sum the run of a generated script up.
+SUMMED = re.compile(r"sim --gen[ =](\d+)")
 
 
 class Case(NamedTuple):
@@ -126,6 +128,12 @@ def points_told(world):
     return f"{' '.join(['points', *map(str, points)])}\n{verdict_on(points, world)}"
 
 
+def reported_told(words, world):
+    """The report of a run and the line that sums it up, by the audit's answer, or by the one that the words say."""
+    number, _, premises = words.partition(" ")
+    return "\n".join([*report_lines(world, premises), sum_line(number, world, premises)])
+
+
 def listed_words_told(data, words):
     """What qu-letters writes for a script, and its status."""
     lines = {"": ListedWorld.lines, "digests": letter_lines, "bytes": byte_lines}.get(words)
@@ -145,7 +153,7 @@ def events_told(command, words, text, names):
         happening.take(line)
     if command == "listed":
         return "\n".join(happening.world.lines_without_points())
-    premises = [] if command == "events" else [premises_line(happening.world)]
+    premises = [] if command == "events" else [premises_line(audited(happening.world))]
     points = [] if command == "audit" else [points_told(happening.world)]
     return "\n".join([*happening.told, *premises, *points])
 
@@ -194,6 +202,11 @@ def answer(command, words, text, names):
     if command in ("letters", "injected", "order"):
         world = world_of(data)
         return {"letters": letters_told, "injected": injected_told, "order": points_told}[command](world)
+    if command == "reported":
+        return reported_told(words, world_of(data))
+    summed = SUMMED.fullmatch(words)
+    if command == "qu" and summed:
+        return told(generated_script(int(summed[1])).encode(), lambda world: [sum_line(summed[1], world)])
     if command in ("events", "listed", "audit", "ordered"):
         return events_told(command, words, text, names)
     if command == "generated":

@@ -2,6 +2,18 @@
 from model.kinds import FRESH, performed
 
 
+def ran(points, kinds):
+    """The values of the machine that ran the points one after another, and its answer at each of them."""
+    values, answers = [FRESH[kind] for kind in kinds], []
+    for point in points:
+        objects = point.body.objects
+        changed, answer = performed([(kinds[known], values[known]) for known in objects], point.body)
+        for known, value in zip(objects, changed, strict=True):
+            values[known] = value
+        answers.append(answer)
+    return values, answers
+
+
 def verdict_on(points, world):
     """Words: `serial`, that events do not rise, or the first fault with the index of its point or operation."""
     if any(one.event >= other.event for one, other in zip(points, points[1:])):
@@ -33,12 +45,8 @@ class Judge:
 
     def differing(self):
         """Points of operations that have another answer than the machine gives along the order."""
-        values = [FRESH[kind] for kind in self.kinds]
-        for at, point in enumerate(self.points):
-            objects = point.body.objects
-            changed, answer = performed([(self.kinds[known], values[known]) for known in objects], point.body)
-            for known, value in zip(objects, changed, strict=True):
-                values[known] = value
+        _, answers = ran(self.points, self.kinds)
+        for at, (point, answer) in enumerate(zip(self.points, answers, strict=True)):
             ends = map(self.end_of, self.operations_at(point))
             if any(end is not None and end.answer != answer for end in ends):
                 yield at

@@ -1,6 +1,8 @@
 """The report of a run, and its letters and points as lines."""
 import hashlib
 
+from model.judge import ran
+from model.kinds import COUNTER
 from model.values import (
     BAD_NAME, EXISTS, FULL, MISSING, OVER, PLAIN_BYTES, TOO_LONG, UNDER, WRONG_KIND, Items)
 
@@ -46,9 +48,14 @@ def answer_words(answer):
     return f"{REFUSAL_WORDS[answer.number]} at {answer.position}"
 
 
-def premises_line(world):
+def audited(world):
+    """The audit's answer in words."""
     forged = world.audit.forged
-    return "premises hold" if forged is None else f"premises forged {forged}"
+    return "hold" if forged is None else f"forged {forged}"
+
+
+def premises_line(premises):
+    return f"premises {premises}"
 
 
 def point_words(point):
@@ -56,7 +63,12 @@ def point_words(point):
     return f"point {point.name}" + (f" faulty {operation_words(point.body)}" if point.faulty else "")
 
 
-def timeline(world):
+def told_points(world, premises):
+    """The points, where the premises hold; else none."""
+    return world.points_in_order() if premises == "hold" else []
+
+
+def timeline(world, premises):
     """The calls, points and ends of a run by event; at one event, calls stand first and ends last."""
     told = []
     for operation in world.operations:
@@ -66,20 +78,41 @@ def timeline(world):
         if end is not None:
             line = f"gaveup {name}" if end.answer is None else f"reply {name} {answer_words(end.answer)}"
             told.append((end.event, 2, len(told), line))
-    for point in world.points_in_order() if world.audit.forged is None else ():
+    for point in told_points(world, premises):
         told.append((point.event, 1, len(told), point_words(point)))
     return [line for *_, line in sorted(told)]
 
 
-def report_lines(world):
-    bounds = world.bounds
+def open_names(world):
+    """The operations without an end, in order."""
     names = sorted((operation.client, operation.number) for operation in world.operations)
-    still_open = [f"open {client}.{number}" for client, number in names if (client, number) not in world.ends]
+    return [name for name in names if name not in world.ends]
+
+
+def count_words(world):
     given_up = sum(end.answer is None for end in world.ends.values())
+    return (f"calls {len(world.operations)} done {len(world.ends) - given_up} gaveup {given_up} "
+            f"open {len(open_names(world))}")
+
+
+def report_lines(world, premises=None):
+    """The report, by the audit's answer, or by another one in words."""
+    bounds = world.bounds
+    premises = premises or audited(world)
     return [
         f"bounds b {bounds.faults} n {bounds.replicas} q {bounds.quorum} r {bounds.repair}",
-        *timeline(world), *still_open, premises_line(world),
-        f"end calls {len(names)} done {len(world.ends) - given_up} gaveup {given_up} open {len(still_open)}"]
+        *timeline(world, premises), *(f"open {client}.{number}" for client, number in open_names(world)),
+        premises_line(premises), f"end {count_words(world)}"]
+
+
+def sum_line(number, world, premises=None):
+    """The line that sums a run up as that of the script of a number, with the counters behind the points."""
+    premises = premises or audited(world)
+    points = told_points(world, premises)
+    values, _ = ran(points, world.setup.kinds)
+    counters = [value for kind, value in zip(world.setup.kinds, values, strict=True) if kind == COUNTER]
+    return (f"gen {number} {count_words(world)} points {len(points)} sum {sum(counters)} "
+            f"premises {premises.split()[0]}")
 
 
 def route_lines(world, text_of):

@@ -79,9 +79,14 @@ class Refused(unittest.TestCase):
         self.assertEqual(what, ["501 lines, 500 at most"])
 
     def test_a_clause_that_is_not_there(self):
-        texts = self.changed(self.check.PROMISES, "| `qu` | `headline` |", "| `qu` | `headlines` |")
+        texts = self.changed(self.check.PROMISES, "`qu_alone` | `headline` |", "`qu_alone` | `headlines` |")
         what = self.found(self.check.check_promises, texts)
-        self.assertEqual(what, ["names the clause headlines, which qu does not have"])
+        self.assertEqual(what, ["names the clause headlines, which qu, qu_alone does not have"])
+
+    def test_a_part_that_the_record_of_a_clause_does_not_have(self):
+        texts = self.changed(self.check.PROMISES, "| `qu` | `torn`,", "| `qu` | `tattered`,")
+        what = self.found(self.check.check_promises, texts)
+        self.assertEqual(what, ["names the clause tattered, which qu does not have"])
 
     def test_a_limit_that_is_not_told(self):
         texts = self.changed(self.check.PROTOCOL, "`MOST_CALLS`", "`MOST_CALL`")

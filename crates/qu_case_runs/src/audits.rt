@@ -88,7 +88,7 @@ fn with_faulty_client(alloc: Global, setup: Setup, client: ClientId) -> Result<S
 }
 
 /// `audit` without what it promises.
-fn premises_of(alloc: Global, trace: &Trace) -> Result<Premises, NoMemory>
+pub fn premises_of(alloc: Global, trace: &Trace) -> Result<Premises, NoMemory>
     requires { IsRun trace.now }
 {
     let run = DecodedTrace::of(alloc, trace)?;

@@ -10,6 +10,7 @@ mod events;
 mod letters;
 mod order_answers;
 mod points;
+mod reports;
 mod scripts;
 
 pub use answers::answer_run;

@@ -1,4 +1,4 @@
-use super::{audits, points};
+use super::{audits, points, reports};
 use qu_case_forms::{Case, Named, NoAnswer, Told};
 use std::alloc::Global;
 
@@ -14,6 +14,7 @@ pub fn answer_order(
         "order" => points::order(alloc, case.lines.as_bytes(), out),
         "audit" => audits::audited(alloc, names, case, out),
         "ordered" => audits::ordered(alloc, names, case, out),
+        "reported" => reports::reported(alloc, case, out),
         _ => Err(NoAnswer::Word),
     }
 }

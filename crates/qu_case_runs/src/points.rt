@@ -30,7 +30,7 @@ pub fn order(alloc: Global, script: &[u8], out: &mut Told) -> Result<(), NoAnswe
 }
 
 /// `order_of` without what it promises, so that the functions that call it know nothing of it, and are proved fast.
-fn printed(alloc: Global, trace: &DecodedTrace<'_>) -> Result<List<Point>, NoMemory>
+pub fn printed(alloc: Global, trace: &DecodedTrace<'_>) -> Result<List<Point>, NoMemory>
     requires { IsRun trace.now }
 {
     order_of(alloc, trace)

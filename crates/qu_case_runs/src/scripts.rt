@@ -6,7 +6,7 @@ ghost use Rattle.qu_world.specs.Run.{IsRun, IsSetup};
 
 use qu_base::{ClientId, NoMemory};
 use qu_case_forms::NoAnswer;
-use qu_script::{Script, play_script, read_script};
+use qu_script::{Script, read_script, run_script};
 use qu_trace::{Event, Setup, Trace};
 use qu_world::{World, WorldFail};
 use std::alloc::Global;
@@ -33,7 +33,7 @@ fn run(alloc: Global, script: &Script) -> Result<Trace, NoAnswer>
     requires { IsSetup script.now.setup }
     ensures { IfOk result IsRun }
 {
-    match play_script(alloc, script) {
+    match run_script(alloc, script) {
         Ok(trace) => Ok(trace),
         Err(_) => Err(NoAnswer::Event),
     }

@@ -39,7 +39,9 @@ fn answer_here(
         "pieces" => program::pieces(alloc, case, out),
         "generated" => answer_generated(alloc, case, out),
         "listed" | "letters" | "injected" => answer_run(alloc, names, case, out),
-        "events" | "order" | "audit" | "ordered" => answer_order(alloc, names, case, out),
+        "events" | "order" | "audit" | "ordered" | "reported" => answer_order(
+            alloc, names, case, out,
+        ),
         _ => answer_bytes(alloc, names, case, out),
     }
 }

@@ -26,4 +26,5 @@ pub mod Handled
 pub mod Groups
 pub mod Truth
 pub mod Together
+pub mod Histories
 pub mod Quick

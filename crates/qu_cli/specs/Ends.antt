@@ -1,6 +1,6 @@
--- How a call of a program ends. What is known of the source and of the sink stands as `source` and
--- `sink` before the call, and as `source'` and `sink'` behind it.
-use Rattle.std.specs.Prelude.{◌≡◌, ⊤, ℕ, true, false, List, [], ◌++◌, Option, None, Some, Result, Ok, Err, IsOk, IsSome, ◌⊎◌, ◌↔◌}
+-- How a call of a program ends: `Ends`, at the end of this file. What is known of the source and of the sink stands as
+-- `source` and `sink` before the call, and as `source'` and `sink'` behind it.
+use Rattle.std.specs.Prelude.{◌≡◌, ◌≢◌, ⊤, ℕ, ◌≤◌, true, false, List, [], ◌++◌, Option, None, Some, Result, Ok, Err, IsOk, IsSome, IfSome, ◌⊎◌, ◌↔◌}
 use Rattle.std.specs.Io.KnownBytes.{IsAtEnd}
 use Rattle.qu_io.specs.Streams.{StreamView, Rose, IsCalm}
 use Rattle.qu_machine.specs.declared.record.Point.{Point}
@@ -28,8 +28,9 @@ use Rattle.qu_notation.specs.declared.command.Command.{Command}
 use Rattle.qu_notation.specs.declared.command.Command.TheVariants.{Sim, Live, SimGen, Gen}
 use Rattle.qu_notation.specs.declared.command.Telling.{Telling}
 use Rattle.qu_notation.specs.declared.command.Telling.TheVariants.{Operations, Events, Digests, Bytes, Summary}
+use Rattle.qu_cli.specs.declared.report.Report.{Report}
 use Rattle.qu_cli.specs.Refusal.{bad_text}
-use Rattle.qu_io.specs.Transfer.{TakesScript, Writes, WritesShort, WritesOrFails}
+use Rattle.qu_io.specs.Transfer.{TakesScript, TakesFew, Writes, WritesShort, WritesOrFails}
 
 -- ---- what a command makes of a script
 
@@ -277,3 +278,30 @@ IsComplete asked source source' sink sink' trace status =
     → IsScriptFor command script → (Rose source source' → ⊥) → (Rose sink sink' → ⊥)
     → ((status ≡ 0) × WritesMade command script sink sink' trace)
     ⊎ ((status ≡ 6) ⊎ ((asked ≡ Some Live) × (status ≡ 7)))
+
+-- ---- a call
+
+-- How a call ends that was asked for a command, or for nothing that it knows, and has this usage: by the status of its
+-- report. `source input` and `sink output` are what is known of its source and of its sink before it.
+pub record Ends {S K : Type 0} (source : S → StreamView) (sink : K → StreamView) (asked : Option Command)
+    (usage_line : List ℕ) (input input' : S) (output output' : K) (report : Report) : Type 0 where
+  pub status : (report.status ≤ 7) × (report.status ≢ 1)
+  pub few : TakesFew (source input) (source input')
+  pub unread : LeavesInput asked → input' ≡ input
+  pub bad_words : (report.status ≡ 2) ↔ (asked ≡ None)
+  pub usage : report.status ≡ 2 → (input' ≡ input) × WritesOrFails (sink output) (sink output') usage_line
+  pub bad_script : report.status ≡ 3 → EndsBad asked (source input) (source input') (sink output) (sink output')
+  pub read_fault : report.status ≡ 4 → Rose (source input) (source input') × (output' ≡ output)
+  pub calm : report.status ≢ 4 → IsCalm (source input) (source input')
+  pub write_fault : report.status ≡ 5
+      → EndsShort asked (source input) (source input') (sink output) (sink output') report.trace
+  pub no_memory : report.status ≡ 6 → output' ≡ output
+  pub done : report.status ≡ 0
+      → EndsDone asked (source input) (source input') (sink output) (sink output') report.trace
+  pub traced : IsTraced asked report.trace report.status
+  pub known : IfSome report.trace (IsPromised asked)
+  pub torn : IsSome report.torn ↔ (report.status ≡ 7)
+  pub tears : report.status ≡ 7 → (asked ≡ Some Live) × (output' ≡ output)
+  pub refused : IsRefused asked (source input) (source input') (sink output) (sink output') report.status
+  pub complete :
+      IsComplete asked (source input) (source input') (sink output) (sink output') report.trace report.status

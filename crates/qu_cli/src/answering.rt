@@ -1,8 +1,6 @@
-ghost use Rattle.std.specs.Prelude.{◌≡◌, ◌≢◌, ◌≤◌, ◌↔◌, None, IfSome};
-ghost use Rattle.qu_io.specs.Streams.{Rose, IsCalm};
+ghost use Rattle.std.specs.Prelude.{◌≡◌, ◌≤◌, None, IfSome};
 ghost use Rattle.qu_notation.specs.Words.{IsAlone};
-ghost use Rattle.qu_io.specs.Transfer.{TakesFew, WritesOrFails};
-ghost use Rattle.qu_cli.specs.Ends.{EndsBad, EndsShort, EndsDone, IsPromised, IsTraced, IsRefused, IsComplete, LeavesInput};
+ghost use Rattle.qu_cli.specs.Ends.{Ends};
 
 use super::output::output_for;
 use super::teller::Teller;
@@ -25,31 +23,8 @@ pub fn answer<T: Teller, S: Source, K: Sink>(
 ) -> Report
     requires alone { IfSome asked IsAlone }
     requires served { IfSome asked T.serves }
-    ensures status { (result.status ≤ 6) × (result.status ≢ 1) }
-    ensures few { TakesFew (S.known input.old) (S.known input.new) }
-
-    ensures unread { LeavesInput asked → input.new ≡ input.old }
-    ensures bad_words { (result.status ≡ 2) ↔ (asked ≡ None) }
-    ensures usage { result.status ≡ 2 → (input.new ≡ input.old)
-        × WritesOrFails (K.known output.old) (K.known output.new) usage.now }
-    ensures bad_script { result.status ≡ 3 → EndsBad asked
-        (S.known input.old) (S.known input.new) (K.known output.old) (K.known output.new) }
-    ensures read_fault { result.status ≡ 4 →
-        Rose (S.known input.old) (S.known input.new) × (output.new ≡ output.old) }
-    ensures calm { result.status ≢ 4 → IsCalm (S.known input.old) (S.known input.new) }
-    ensures write_fault { result.status ≡ 5 → EndsShort asked
-        (S.known input.old) (S.known input.new) (K.known output.old) (K.known output.new) result.trace }
-    ensures no_memory { result.status ≡ 6 → output.new ≡ output.old }
-    ensures done { result.status ≡ 0 → EndsDone asked
-        (S.known input.old) (S.known input.new) (K.known output.old) (K.known output.new) result.trace }
-    ensures traced { IsTraced asked result.trace result.status }
-    ensures known { IfSome result.trace (IsPromised asked) }
-    ensures whole { result.torn ≡ None }
-
-    ensures refused { IsRefused asked (S.known input.old)
-        (S.known input.new) (K.known output.old) (K.known output.new) result.status }
-    ensures complete { IsComplete asked (S.known input.old)
-        (S.known input.new) (K.known output.old) (K.known output.new) result.trace result.status }
+    ensures ends { Ends S.known K.known asked usage.now input.old input.new output.old output.new result }
+    ensures whole { (result.torn ≡ None) × (result.status ≤ 6) }
 {
     let Some(command) = asked else {
         tell_text(output, usage);

@@ -7,7 +7,6 @@ ghost use Rattle.qu_cli.specs.Output.{IsOutput};
 
 use super::output::Output;
 use super::refusal::refusal_text;
-use super::script::run_until_refused;
 use super::teller::Teller;
 use qu_audit::audit;
 use qu_base::{List, NoMemory};
@@ -15,7 +14,7 @@ use qu_language::{hint, run_hint};
 use qu_notation::{Command, Telling};
 use qu_print::{report_text, summary_text};
 use qu_safety::order_of;
-use qu_script::{Bad, Played, Script, ScriptFail, read_script};
+use qu_script::{Bad, Played, Script, ScriptFail, play_until_refused, read_script};
 use qu_trace::{DecodedTrace, Trace};
 use std::alloc::Global;
 
@@ -53,7 +52,7 @@ fn run_told<T: Teller>(
     requires setup { IsSetup script.now.setup }
     ensures { IfOk result (IsOutput (Command.Sim telling) text.now) }
 {
-    let Played { trace, refused } = run_until_refused(alloc, script)?;
+    let Played { trace, refused } = play_until_refused(alloc, script)?;
     match refused {
         None => whole_told::<T>(alloc, telling, text, script, trace),
         Some(bad) => stopped_told::<T>(alloc, telling, text, script, &trace, bad),

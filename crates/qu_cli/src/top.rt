@@ -1,8 +1,6 @@
-ghost use Rattle.std.specs.Prelude.{◌≡◌, ◌≢◌, ◌≤◌, ◌↔◌, None, Some, IfSome, IsSome, map, string_bytes};
-ghost use Rattle.qu_io.specs.Streams.{Rose, IsCalm};
+ghost use Rattle.std.specs.Prelude.{◌≡◌, ◌≤◌, None, IfSome, map, string_bytes};
 ghost use Rattle.qu_notation.specs.Words.{alone_command_of, command_of, usage_text};
-ghost use Rattle.qu_io.specs.Transfer.{TakesFew, WritesOrFails};
-ghost use Rattle.qu_cli.specs.Ends.{EndsBad, EndsShort, EndsDone, HasOneHistory, IsTraced, IsRefused, IsComplete, LeavesInput};
+ghost use Rattle.qu_cli.specs.Ends.{Ends, HasOneHistory};
 
 use super::Report;
 use super::answering::answer;
@@ -29,31 +27,10 @@ pub fn qu_alone<S: Source, K: Sink>(
     input: &mut S,
     output: &mut K,
 ) -> Report
-    ensures status { (result.status ≤ 6) × (result.status ≢ 1) }
-    ensures few { TakesFew (S.known input.old) (S.known input.new) }
-
-    ensures unread { LeavesInput (alone_command_of (map string_bytes words.now)) → input.new ≡ input.old }
-    ensures bad_words { (result.status ≡ 2) ↔ (alone_command_of (map string_bytes words.now) ≡ None) }
-    ensures usage { result.status ≡ 2 → (input.new ≡ input.old)
-        × WritesOrFails (K.known output.old) (K.known output.new) usage_text }
-    ensures bad_script { result.status ≡ 3 → EndsBad (alone_command_of (map string_bytes words.now))
-        (S.known input.old) (S.known input.new) (K.known output.old) (K.known output.new) }
-    ensures read_fault { result.status ≡ 4 →
-        Rose (S.known input.old) (S.known input.new) × (output.new ≡ output.old) }
-    ensures calm { result.status ≢ 4 → IsCalm (S.known input.old) (S.known input.new) }
-    ensures write_fault { result.status ≡ 5 → EndsShort (alone_command_of (map string_bytes words.now))
-        (S.known input.old) (S.known input.new) (K.known output.old) (K.known output.new) result.trace }
-    ensures no_memory { result.status ≡ 6 → output.new ≡ output.old }
-    ensures done { result.status ≡ 0 → EndsDone (alone_command_of (map string_bytes words.now))
-        (S.known input.old) (S.known input.new) (K.known output.old) (K.known output.new) result.trace }
-    ensures traced { IsTraced (alone_command_of (map string_bytes words.now)) result.trace result.status }
+    ensures ends { Ends S.known K.known (alone_command_of (map string_bytes words.now)) usage_text
+        input.old input.new output.old output.new result }
     ensures headline { IfSome result.trace HasOneHistory }
-    ensures whole { result.torn ≡ None }
-
-    ensures refused { IsRefused (alone_command_of (map string_bytes words.now)) (S.known input.old)
-        (S.known input.new) (K.known output.old) (K.known output.new) result.status }
-    ensures complete { IsComplete (alone_command_of (map string_bytes words.now)) (S.known input.old)
-        (S.known input.new) (K.known output.old) (K.known output.new) result.trace result.status }
+    ensures whole { (result.torn ≡ None) × (result.status ≤ 6) }
 {
     answer::<OperationsTeller, S, K>(alloc, alone_command(words), USAGE, input, output)
 }
@@ -72,33 +49,9 @@ pub fn qu<R: Threads + Wait + Sync, S: Source, K: Sink, G: Gate>(
     output: &mut K,
     gate: &G,
 ) -> Report
-    ensures status { (result.status ≤ 7) × (result.status ≢ 1) }
-    ensures few { TakesFew (S.known input.old) (S.known input.new) }
-
-    ensures unread { LeavesInput (command_of (map string_bytes words.now)) → input.new ≡ input.old }
-    ensures bad_words { (result.status ≡ 2) ↔ (command_of (map string_bytes words.now) ≡ None) }
-    ensures usage { result.status ≡ 2 → (input.new ≡ input.old)
-        × WritesOrFails (K.known output.old) (K.known output.new) usage_text }
-    ensures bad_script { result.status ≡ 3 → EndsBad (command_of (map string_bytes words.now))
-        (S.known input.old) (S.known input.new) (K.known output.old) (K.known output.new) }
-    ensures read_fault { result.status ≡ 4 →
-        Rose (S.known input.old) (S.known input.new) × (output.new ≡ output.old) }
-    ensures calm { result.status ≢ 4 → IsCalm (S.known input.old) (S.known input.new) }
-    ensures write_fault { result.status ≡ 5 → EndsShort (command_of (map string_bytes words.now))
-        (S.known input.old) (S.known input.new) (K.known output.old) (K.known output.new) result.trace }
-    ensures no_memory { result.status ≡ 6 → output.new ≡ output.old }
-    ensures done { result.status ≡ 0 → EndsDone (command_of (map string_bytes words.now))
-        (S.known input.old) (S.known input.new) (K.known output.old) (K.known output.new) result.trace }
-    ensures traced { IsTraced (command_of (map string_bytes words.now)) result.trace result.status }
+    ensures ends { Ends S.known K.known (command_of (map string_bytes words.now)) usage_text
+        input.old input.new output.old output.new result }
     ensures headline { IfSome result.trace HasOneHistory }
-    ensures torn { IsSome result.torn ↔ (result.status ≡ 7) }
-    ensures tears { result.status ≡ 7 →
-        (command_of (map string_bytes words.now) ≡ Some Command.Live) × (output.new ≡ output.old) }
-
-    ensures refused { IsRefused (command_of (map string_bytes words.now)) (S.known input.old)
-        (S.known input.new) (K.known output.old) (K.known output.new) result.status }
-    ensures complete { IsComplete (command_of (map string_bytes words.now)) (S.known input.old)
-        (S.known input.new) (K.known output.old) (K.known output.new) result.trace result.status }
 {
     if asks_live(words) {
         return answer_live(rt, alloc, input, output, gate);

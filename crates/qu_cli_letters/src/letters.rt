@@ -1,8 +1,6 @@
-ghost use Rattle.std.specs.Prelude.{◌≡◌, ◌≢◌, ◌≤◌, ◌↔◌, None, IfSome, map, string_bytes};
-ghost use Rattle.qu_io.specs.Streams.{Rose, IsCalm};
+ghost use Rattle.std.specs.Prelude.{◌≡◌, ◌≤◌, None, map, string_bytes};
 ghost use Rattle.qu_notation.specs.Words.{command_in, letters_commands, letters_usage_text};
-ghost use Rattle.qu_io.specs.Transfer.{TakesFew, WritesOrFails};
-ghost use Rattle.qu_cli.specs.Ends.{EndsBad, EndsShort, EndsDone, IsPromised, IsTraced, IsRefused, IsComplete};
+ghost use Rattle.qu_cli.specs.Ends.{Ends};
 
 use super::teller::LettersTeller;
 use qu_cli::{Report, answer};
@@ -22,29 +20,9 @@ pub fn qu_letters<S: Source, K: Sink>(
     input: &mut S,
     output: &mut K,
 ) -> Report
-    ensures status { (result.status ≤ 6) × (result.status ≢ 1) }
-    ensures few { TakesFew (S.known input.old) (S.known input.new) }
-
-    ensures bad_words { (result.status ≡ 2) ↔ (command_in letters_commands (map string_bytes words.now) ≡ None) }
-    ensures usage { result.status ≡ 2 → (input.new ≡ input.old)
-        × WritesOrFails (K.known output.old) (K.known output.new) letters_usage_text }
-    ensures bad_script { result.status ≡ 3 → EndsBad (command_in letters_commands (map string_bytes words.now))
-        (S.known input.old) (S.known input.new) (K.known output.old) (K.known output.new) }
-    ensures read_fault { result.status ≡ 4 →
-        Rose (S.known input.old) (S.known input.new) × (output.new ≡ output.old) }
-    ensures calm { result.status ≢ 4 → IsCalm (S.known input.old) (S.known input.new) }
-    ensures write_fault { result.status ≡ 5 → EndsShort (command_in letters_commands (map string_bytes words.now))
-        (S.known input.old) (S.known input.new) (K.known output.old) (K.known output.new) result.trace }
-    ensures no_memory { result.status ≡ 6 → output.new ≡ output.old }
-    ensures done { result.status ≡ 0 → EndsDone (command_in letters_commands (map string_bytes words.now))
-        (S.known input.old) (S.known input.new) (K.known output.old) (K.known output.new) result.trace }
-    ensures traced { IsTraced (command_in letters_commands (map string_bytes words.now)) result.trace result.status }
-    ensures known { IfSome result.trace (IsPromised (command_in letters_commands (map string_bytes words.now))) }
-
-    ensures refused { IsRefused (command_in letters_commands (map string_bytes words.now)) (S.known input.old)
-        (S.known input.new) (K.known output.old) (K.known output.new) result.status }
-    ensures complete { IsComplete (command_in letters_commands (map string_bytes words.now)) (S.known input.old)
-        (S.known input.new) (K.known output.old) (K.known output.new) result.trace result.status }
+    ensures ends { Ends S.known K.known (command_in letters_commands (map string_bytes words.now)) letters_usage_text
+        input.old input.new output.old output.new result }
+    ensures whole { (result.torn ≡ None) × (result.status ≤ 6) }
 {
     answer::<LettersTeller, S, K>(alloc, letters_command(words), LETTERS_USAGE, input, output)
 }

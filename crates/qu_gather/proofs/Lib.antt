@@ -6,6 +6,7 @@ pub mod Moving
 pub mod Telling
 pub mod Ended
 pub mod Waiting
+pub mod WaitFacts
 pub mod Recorded
 pub mod Replied
 pub mod Gathering

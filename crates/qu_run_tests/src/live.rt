@@ -21,6 +21,20 @@ const TWO_ADDS: &str = "bounds b 1 n 6 q 5 r 3\n\
     premises hold\n\
     end calls 2 done 2 gaveup 0 open 0\n";
 
+/// Lines of each kind that makes another event than a call, and one that no script may have behind its first word.
+const NO_CALLS: [&str; 10] = [
+    "deliver 1",
+    "flow",
+    "flow x",
+    "hold 0",
+    "free 0",
+    "lose",
+    "tick 1",
+    "wake 1",
+    "inject client 1 -",
+    "fake 0 1 far",
+];
+
 const USAGE: &str = "usage: qu sim [--gen N] | live | gen N\n";
 
 fn source_of(alloc: Global, script: &str) -> Result<MemSource, Fail> {
@@ -64,9 +78,12 @@ fn live_tells_what_sim_tells(rt: HostRuntime) -> Result<(), Fail> {
 
 #[test]
 fn live_calls_alone(rt: HostRuntime) -> Result<(), Fail> {
-    let script = format!(in rt.alloc(); "{SETUP}{CALLS}flow x\ncall 9\n")?;
-    let text = "line 7: not in live\n";
-    lives(&rt, rt.alloc(), script.as_str(), 3, text)
+    for line in &NO_CALLS {
+        let script = format!(in rt.alloc(); "{SETUP}{CALLS}{line}\ncall 9\n")?;
+        let text = "line 7: not in live\n";
+        lives(&rt, rt.alloc(), script.as_str(), 3, text)?;
+    }
+    Ok(())
 }
 
 #[test]

@@ -5,7 +5,7 @@ use qu_class::method_at;
 use qu_frames::Frame;
 use qu_history::{DigestedSets, HISTORY_LIMIT, Sets};
 use qu_objects::{Answer, Item, KindName, Outcome};
-use qu_script::{play_script, read_script};
+use qu_script::{read_script, run_script};
 use qu_seal::KeyRing;
 use qu_stamp::{Candidate, LAST_TIME};
 use qu_testing::holds;
@@ -27,7 +27,7 @@ const FIRST: u64 = 23;
 
 fn trace(alloc: Global) -> Result<Trace, Fail> {
     match read_script(alloc, TWO_ADDS.as_bytes()) {
-        Ok(script) => Ok(play_script(alloc, &script).ok().ok_or("no run")?),
+        Ok(script) => Ok(run_script(alloc, &script).ok().ok_or("no run")?),
         Err(_) => Err("the script is refused".into()),
     }
 }

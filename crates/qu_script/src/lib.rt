@@ -14,5 +14,5 @@ pub use outage::Outage;
 pub use qu_language::{How, Line, MOST_TICKS, Script};
 pub use qu_script_words::{Bad, BadKind, ScriptFail};
 pub use read::{read_live_script, read_script};
-pub use run::{Played, play_script, play_until_refused};
+pub use run::{Played, play_until_refused, run_script};
 pub use waiting::{Begin, find_waiting, next_letter};

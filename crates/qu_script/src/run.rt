@@ -42,11 +42,11 @@ pub fn play_until_refused(alloc: Global, script: &Script) -> Result<Played, NoMe
     })
 }
 
-/// Plays a script whose lines can all be.
+/// Runs a script whose lines can all be.
 ///
 /// The error is the first line that cannot be, as `play_until_refused` tells it.
 #[tactic(auto, unfolding(crate::specs::Events::run_of))]
-pub fn play_script(alloc: Global, script: &Script) -> Result<Trace, ScriptFail>
+pub fn run_script(alloc: Global, script: &Script) -> Result<Trace, ScriptFail>
     requires { IsSetup script.now.setup }
     ensures value { IsAsMeant (λ trace. trace) result (run_of script.now) }
     ensures run { IfOk result IsRun }
