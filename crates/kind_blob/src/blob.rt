@@ -1,6 +1,4 @@
 ghost use Rattle.std.specs.Prelude.{◌≡◌, ◌++◌, [], IfOk};
-ghost use Rattle.qu_base.specs.Reading.{Gives};
-ghost use Rattle.qu_base.specs.Texts.{content_form};
 ghost use Rattle.kind_blob.specs.Blob.{stored};
 
 use qu_base::{
@@ -100,21 +98,14 @@ impl Kind for Blob {
     }
 
     fn write(&self, out: &mut Outbytes) -> Result<(), NoMemory> {
-        let start = out.len();
-        let written = put_content(self.content.as_slice(), out);
-        if written.is_err() {
-            out.rewind(start);
-        }
-        written
+        put_content(self.content.as_slice(), out)
     }
 
     #[tactic(auto, using(crate::specs::Laws::blob_read))]
     fn read(alloc: Global, text: &mut Cursor<'_>) -> Result<Blob, ReadFail> {
         text.are_bytes();
-        let mut ahead = text.ahead();
-        let blob = blob_at(alloc, &mut ahead)?;
-        *text = ahead;
-        Ok(blob)
+        let content = text.content(alloc)?;
+        Ok(Blob { content })
     }
 
     ghost code = { blob-code };
@@ -142,12 +133,4 @@ fn joined(alloc: Global, there: &[u8], more: &[u8]) -> Result<Applied<Blob>, NoM
     let length = content.len() as u64;
     let content = List::from(content);
     Ok(Applied::Changed(Blob { content }, Item::Number(length)))
-}
-
-/// The next content, as a blob; on failure a part of it may be read.
-fn blob_at(alloc: Global, text: &mut Cursor<'_>) -> Result<Blob, ReadFail>
-    ensures { Gives content_form result text.old text.new }
-{
-    let content = text.content(alloc)?;
-    Ok(Blob { content })
 }

@@ -111,12 +111,7 @@ impl Kind for Dir {
 
     #[tactic(auto, unfolding(crate::specs::Dir::dir_form))]
     fn write(&self, out: &mut Outbytes) -> Result<(), NoMemory> {
-        let start = out.len();
-        let written = put_entries(self.entries.as_slice(), out);
-        if written.is_err() {
-            out.rewind(start);
-        }
-        written
+        put_entries(self.entries.as_slice(), out)
     }
 
     #[tactic(auto, using(crate::specs::Laws::dir_read))]

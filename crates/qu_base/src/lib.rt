@@ -10,6 +10,7 @@ mod list;
 mod no_memory;
 mod outbytes;
 mod party;
+mod refusal_number;
 mod shared;
 mod texts;
 
@@ -25,5 +26,6 @@ pub use list::List;
 pub use no_memory::NoMemory;
 pub use outbytes::Outbytes;
 pub use party::{ClientId, Digest, ObjectId, Party, ReplicaId};
+pub use refusal_number::refusal_numbers_are_these;
 pub use shared::Shared;
 pub use texts::{is_name_before, put_content, put_entries, put_name};

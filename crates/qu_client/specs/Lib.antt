@@ -2,6 +2,7 @@ pub mod AskedFirst
 pub mod Leaving
 pub mod Needed
 pub mod Plans
+pub mod RefusalNumber
 pub mod Rounds
 pub mod Sound
 pub mod State

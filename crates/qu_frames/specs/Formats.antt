@@ -99,7 +99,7 @@ request_fields (Request client number round sets body mac) = Some (client, (numb
 request_fields _ = None
 
 abbrev pub request_made : RequestFields → Frame
-request_made fields = Request fields.0 fields.1.0 fields.1.1.0 fields.1.1.1.0 fields.1.1.1.1.0 fields.1.1.1.1.1
+request_made (client, (number, (round, (sets, (body, mac))))) = Request client number round sets body mac
 
 -- client, number from 1 on, round, sets, what is asked for, HMAC
 abbrev pub request_form : Format RequestFields
@@ -119,9 +119,8 @@ reply_fields (Reply replica client number round verdict culled shown mac) =
 reply_fields _ = None
 
 abbrev pub reply_of : ReplyFields → Frame
-reply_of fields =
-    Reply fields.0 fields.1.0 fields.1.1.0 fields.1.1.1.0 fields.1.1.1.1.0 fields.1.1.1.1.1.0 fields.1.1.1.1.1.1.0
-    fields.1.1.1.1.1.1.1
+reply_of (replica, (client, (number, (round, (verdict, (culled, (shown, mac))))))) =
+    Reply replica client number round verdict culled shown mac
 
 -- replica, client, number, round, verdict, what was culled, what is shown, HMAC
 abbrev pub reply_form : Format ReplyFields
@@ -140,7 +139,7 @@ fetch_fields (Fetch replica object stamp mac) = Some (replica, (object, (stamp, 
 fetch_fields _ = None
 
 abbrev pub fetch_of : FetchFields → Frame
-fetch_of fields = Fetch fields.0 fields.1.0 fields.1.1.0 fields.1.1.1
+fetch_of (replica, (object, (stamp, mac))) = Fetch replica object stamp mac
 
 -- replica, object, stamp of no barrier, HMAC
 abbrev pub fetch_form : Format FetchFields
@@ -158,7 +157,7 @@ fetched_fields (Fetched replica object stamp state mac) = Some (replica, (object
 fetched_fields _ = None
 
 abbrev pub fetched_of : FetchedFields → Frame
-fetched_of fields = Fetched fields.0 fields.1.0 fields.1.1.0 fields.1.1.1.0 fields.1.1.1.1
+fetched_of (replica, (object, (stamp, (state, mac)))) = Fetched replica object stamp state mac
 
 -- replica, object, stamp of no barrier, the object's state under this stamp, HMAC
 abbrev pub fetched_form : Format FetchedFields

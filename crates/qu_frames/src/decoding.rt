@@ -6,7 +6,7 @@ ghost use Rattle.qu_frames.specs.Decoding.{IsDecoded, decoded};
 
 use crate::frame::Frame;
 use crate::limits::TEXT_LIMIT;
-use crate::reading_frame::frame_at;
+use crate::reading_frame::read_frame;
 use qu_base::{BadText, Cursor, ReadFail, Why};
 use std::alloc::Global;
 
@@ -34,7 +34,7 @@ fn decode_at(alloc: Global, text: &[u8]) -> Result<Frame, ReadFail>
     if text.len() > TEXT_LIMIT {
         return Err(ReadFail::Bad(rest.refusal(Why::Range)));
     }
-    let frame = frame_at(alloc, &mut rest)?;
+    let frame = read_frame(alloc, &mut rest)?;
     let end = rest.ahead();
     if rest.u8().is_some() {
         return Err(ReadFail::Bad(end.refusal(Why::Rest)));

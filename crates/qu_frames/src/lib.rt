@@ -23,7 +23,7 @@ pub use input::{Input, LetterName};
 pub use limits::{CULLED_LIMIT, LAST_ROUND, TEXT_LIMIT, limits_are_these};
 pub use qu_verdicts::{ClassCode, Refusal, Verdict, refusal_numbers_are_these};
 pub use reading::{Reading, said_again};
-pub use reading_frame::frame_at;
+pub use reading_frame::read_frame;
 pub use receiving::receive;
 pub use requests::read_request;
 pub use signing::{before_mac, text_digest, with_mac};

@@ -1,5 +1,5 @@
 //! Frames from bytes, by the formats of `specs/Formats.antt`.
-ghost use Rattle.std.specs.Prelude.{◌≡◌, None, IfOk};
+ghost use Rattle.std.specs.Prelude.{◌≡◌, None, IfOk, OnErr};
 ghost use Rattle.qu_base.specs.Reading.{Reads, Gives};
 ghost use Rattle.qu_frames.specs.Formats.{objects_in_sets, target_form, body_form, is_after_pair, pair_after, some_culled, culled_form, request_frame, reply_frame, fetch_frame, fetched_frame, kind_form, frame_form};
 
@@ -8,12 +8,23 @@ use qu_base::{BadText, Cursor, List, NoMemory, ObjectId, ReadFail, ReplicaId, Wh
 use qu_history::{SetOf, read_sets, read_shown};
 use qu_objects::{read_act, read_query, read_state};
 use qu_stamp::read_plain_stamp;
-use qu_verdicts::verdict_at;
+use qu_verdicts::read_verdict;
 use std::alloc::Global;
 
-/// The next frame: its version, its kind, and the fields of this kind.
+/// The next frame. A refusal is that of the first field that fails. Without a frame the text stays as it is.
+pub fn read_frame(alloc: Global, text: &mut Cursor) -> Result<Frame, ReadFail>
+    ensures read { Gives frame_form result text.old text.new }
+    ensures kept { OnErr result (text.new ≡ text.old) }
+{
+    let mut ahead = text.ahead();
+    let frame = frame_at(alloc, &mut ahead)?;
+    *text = ahead;
+    Ok(frame)
+}
+
+/// The version of a frame, its kind, and the fields of this kind.
 #[tactic(auto, unfolding(crate::specs::Formats::frame_form))]
-pub fn frame_at(alloc: Global, text: &mut Cursor) -> Result<Frame, ReadFail>
+fn frame_at(alloc: Global, text: &mut Cursor) -> Result<Frame, ReadFail>
     ensures { Gives frame_form result text.old text.new }
 {
     let start = text.ahead();
@@ -70,7 +81,7 @@ fn reply_at(alloc: Global, text: &mut Cursor) -> Result<Frame, ReadFail>
     let client = text.client()?;
     let number = text.u64_within(0, u64::MAX)?;
     let round = text.u8_within(1, LAST_ROUND)?;
-    let verdict = verdict_at(alloc, text)?;
+    let verdict = read_verdict(alloc, text)?;
     let culled = culled_at(alloc, text)?;
     let shown = read_shown(alloc, replica, text)?;
     let mac = text.array()?;

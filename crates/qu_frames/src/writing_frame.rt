@@ -13,7 +13,7 @@ use qu_base::{ClientId, List, NoMemory, ObjectId, Outbytes, ReplicaId};
 use qu_history::{Sealed, Sets, write_sets, write_shown};
 use qu_objects::{write_act, write_query, write_state};
 use qu_stamp::{Stamp, write_stamp};
-use qu_verdicts::append_verdict;
+use qu_verdicts::write_verdict;
 use std::alloc::Global;
 
 /// Room for the bytes of most frames.
@@ -115,7 +115,7 @@ fn append_reply(
     out.u8(2)?;
     out.u8(replica.0)?;
     append_round(client, number, round, out)?;
-    append_verdict(verdict, out)?;
+    write_verdict(verdict, out)?;
     append_culled(culled.as_slice(), out)?;
     write_shown(shown.as_slice(), out)
 }

@@ -1,5 +1,5 @@
 -- A source or a sink in memory, whose calls fail where its maker says.
-use Rattle.std.specs.Prelude.{◌≡◌, ℕ, List, Some, Contains}
+use Rattle.std.specs.Prelude.{◌≡◌, ◌<◌, ◌⊎◌, ℕ, Bool, List, Some, Contains, IsTrue}
 use Rattle.qu_io.specs.Streams.{StreamView, next_count}
 
 pub record InMemory : Type 0 where
@@ -13,6 +13,8 @@ pub record InMemory : Type 0 where
   pub calls : ℕ
   -- how many calls a fault ended
   pub faults : ℕ
+  -- whether the call that was made last found no memory for its bytes
+  pub lacked : Bool
 
 -- what it tells as a source or as a sink
 abbrev pub known_of : InMemory → StreamView
@@ -27,3 +29,7 @@ pub record CountsCall (old new : InMemory) : Type 0 where
 -- the call that was made last is one that has to fail
 abbrev pub HasToFail : InMemory → Type 0
 HasToFail memory = Contains memory.failing memory.calls
+
+-- why a write of so many bytes fails: it has to, it may take nothing of them, or there was no memory for them
+abbrev pub FailsWriting : InMemory → ℕ → Type 0
+FailsWriting memory count = HasToFail memory ⊎ ((memory.largest ≡ 0 × 0 < count) ⊎ IsTrue memory.lacked)

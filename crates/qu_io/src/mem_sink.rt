@@ -1,7 +1,7 @@
-ghost use Rattle.std.specs.Prelude.{◌≡◌, ◌++◌, ◌<◌, [], min, length, take, is_ok, if◌then◌else◌, IsErr, IfOk, OnErr};
+ghost use Rattle.std.specs.Prelude.{◌≡◌, ◌↔◌, ◌++◌, [], false, min, length, take, is_ok, if◌then◌else◌, IsErr, IfOk, OnErr};
 ghost use Rattle.qu_io.specs.Streams.{next_count};
 ghost use Rattle.qu_io.specs.Writes.{WritesTo};
-ghost use Rattle.qu_io.specs.InMemory.{known_of, CountsCall, HasToFail};
+ghost use Rattle.qu_io.specs.InMemory.{known_of, CountsCall, FailsWriting};
 
 use super::plan::Plan;
 use super::{Failed, Sink};
@@ -16,6 +16,8 @@ use std::marker::Model;
 pub struct MemSink {
     taken: Vec<u8>,
     plan: Plan,
+    /// Whether the write that was made last found no memory for its bytes.
+    lacked: bool,
 }
 
 impl Model for MemSink {
@@ -29,6 +31,7 @@ impl Model for MemSink {
       failing = memory.plan.failing;
       calls = memory.plan.calls;
       faults = memory.plan.faults;
+      lacked = memory.lacked;
     } };
 }
 
@@ -42,11 +45,13 @@ impl MemSink {
           failing = failing;
           calls = 0;
           faults = 0;
+          lacked = false;
         } }
     {
         MemSink {
             taken: Vec::new(alloc),
             plan: Plan::new(largest, failing),
+            lacked: false,
         }
     }
 
@@ -70,6 +75,13 @@ impl MemSink {
     {
         self.plan.faults
     }
+
+    /// Whether the write that was made last found no memory for its bytes.
+    pub fn lacked(&self) -> bool
+        ensures { result ≡ self.now.lacked }
+    {
+        self.lacked
+    }
 }
 
 impl Sink for MemSink {
@@ -83,13 +95,13 @@ impl Sink for MemSink {
         ensures call { CountsCall self.old self.new }
         ensures faults { self.new.faults ≡
             (if is_ok result then self.old.faults else next_count self.old.faults) }
-        ensures fails { HasToFail self.new → IsErr result }
-        ensures nothing { self.old.largest ≡ 0 → 0 < length piece.now → IsErr result }
+        ensures fails { IsErr result ↔ FailsWriting self.new (length piece.now) }
 
         ensures count { IfOk result (λ count. count ≡ min (length piece.now) self.old.largest) }
         ensures taken { IfOk result (λ count. self.new.bytes ≡ self.old.bytes ++ take count piece.now) }
         ensures kept { OnErr result (self.new.bytes ≡ self.old.bytes) }
     {
+        self.lacked = false;
         self.plan.next_call()?;
         let count = piece.len().min(self.plan.largest);
         if count == 0 && !piece.is_empty() {
@@ -97,7 +109,10 @@ impl Sink for MemSink {
         }
         match self.taken.extend_from_slice(&piece[..count]) {
             Ok(()) => Ok(count),
-            Err(_) => Err(self.plan.fault()),
+            Err(_) => {
+                self.lacked = true;
+                Err(self.plan.fault())
+            }
         }
     }
 }

@@ -1,4 +1,4 @@
-ghost use Rattle.std.specs.Prelude.{◌≡◌, ◌↔◌, ◌++◌, ◌<◌, min, length, take, drop, is_ok, if◌then◌else◌, IsErr, IfOk, OnErr};
+ghost use Rattle.std.specs.Prelude.{◌≡◌, ◌↔◌, ◌++◌, ◌<◌, false, min, length, take, drop, is_ok, if◌then◌else◌, IsErr, IfOk, OnErr};
 ghost use Rattle.qu_io.specs.Streams.{next_count};
 ghost use Rattle.qu_io.specs.Reads.{ReadsFrom};
 ghost use Rattle.qu_io.specs.InMemory.{known_of, CountsCall, HasToFail};
@@ -16,7 +16,7 @@ pub struct MemSource {
 }
 
 impl Model for MemSource {
-    ghost use Rattle.std.specs.Prelude.{◌<◌};
+    ghost use Rattle.std.specs.Prelude.{◌<◌, false};
     ghost use Rattle.qu_io.specs.InMemory.{InMemory};
 
     ghost Value = { InMemory };
@@ -27,6 +27,7 @@ impl Model for MemSource {
       failing = memory.plan.failing;
       calls = memory.plan.calls;
       faults = memory.plan.faults;
+      lacked = false;
     } };
 
     ghost invariant = { λ memory. 0 < memory.plan.largest };
@@ -43,6 +44,7 @@ impl MemSource {
           failing = failing;
           calls = 0;
           faults = 0;
+          lacked = false;
         } }
     {
         MemSource {

@@ -1,4 +1,4 @@
-ghost use Rattle.std.specs.Prelude.{◌≡◌, ◌++◌, IfOk, OnOk, string_bytes};
+ghost use Rattle.std.specs.Prelude.{◌≡◌, ◌++◌, IfOk, OnOk, OnErr, string_bytes};
 ghost use Rattle.qu_notation.specs.Bytes.{hex_bytes, byte_text, bytes_text};
 
 use hex::FromHexError;
@@ -24,9 +24,20 @@ pub fn read_bytes(alloc: Global, word: &[u8]) -> Result<Option<List<u8>>, NoMemo
     }
 }
 
-/// Writes bytes by two lower-case hexadecimal digits each, or `-` for no bytes. Without memory a part may be written.
-#[tactic(auto, unfolding(crate::specs::Bytes::bytes_text))]
+/// Writes bytes by two lower-case hexadecimal digits each, or `-` for no bytes. Without memory the text stays as it is.
 pub fn put_bytes_text(text: &mut String, bytes: &[u8]) -> Result<(), NoMemory>
+    ensures ok { OnOk result (string_bytes text.new ≡ string_bytes text.old ++ bytes_text bytes.now) }
+    ensures err { OnErr result (string_bytes text.new ≡ string_bytes text.old) }
+{
+    let mut aside = String::new(*text.allocator());
+    append_bytes(&mut aside, bytes)?;
+    text.push_str(aside.as_str())?;
+    Ok(())
+}
+
+/// Writes bytes, and on failure a part of them.
+#[tactic(auto, unfolding(crate::specs::Bytes::bytes_text))]
+fn append_bytes(text: &mut String, bytes: &[u8]) -> Result<(), NoMemory>
     ensures { OnOk result (string_bytes text.new ≡ string_bytes text.old ++ bytes_text bytes.now) }
 {
     if bytes.is_empty() {

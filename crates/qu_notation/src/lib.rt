@@ -14,7 +14,7 @@ mod service;
 
 pub use bytes::{put_bytes_text, read_bytes};
 pub use command::{Command, Telling};
-pub use cut::{cut_line, cut_words};
+pub use cut::{cut_line, split_at_spaces};
 pub use letters::{LETTERS_USAGE, letters_command};
 pub use names::{put_entries_text, put_name_text};
 pub use number::read_number;

@@ -1,4 +1,4 @@
-ghost use Rattle.std.specs.Prelude.{◌≡◌, ◌++◌, OnOk, string_bytes};
+ghost use Rattle.std.specs.Prelude.{◌≡◌, ◌++◌, OnOk, OnErr, string_bytes};
 ghost use Rattle.qu_notation.specs.Names.{is_plain_byte, name_byte_text, written_name, entry_text, entries_text};
 
 use super::bytes::put_byte;
@@ -12,9 +12,20 @@ pub(crate) fn is_plain_byte(byte: u8) -> bool
 }
 
 /// Writes a name: its bytes by `%` and two digits each where they do not stand for themselves, or `%` for no bytes.
-/// Without memory a part may be written.
-#[tactic(auto, unfolding(crate::specs::Names::written_name))]
+/// Without memory the text stays as it is.
 pub fn put_name_text(text: &mut String, name: &[u8]) -> Result<(), NoMemory>
+    ensures ok { OnOk result (string_bytes text.new ≡ string_bytes text.old ++ written_name name.now) }
+    ensures err { OnErr result (string_bytes text.new ≡ string_bytes text.old) }
+{
+    let mut aside = String::new(*text.allocator());
+    append_name(&mut aside, name)?;
+    text.push_str(aside.as_str())?;
+    Ok(())
+}
+
+/// Writes a name, and on failure a part of it.
+#[tactic(auto, unfolding(crate::specs::Names::written_name))]
+fn append_name(text: &mut String, name: &[u8]) -> Result<(), NoMemory>
     ensures { OnOk result (string_bytes text.new ≡ string_bytes text.old ++ written_name name.now) }
 {
     if name.is_empty() {
@@ -38,10 +49,21 @@ fn put_name_byte(text: &mut String, byte: u8) -> Result<(), NoMemory>
     Ok(())
 }
 
-/// Writes entries, `NAME=N` each, with commas between them, or `-` for no entries. Without memory a part may be
-/// written.
-#[tactic(auto, unfolding(crate::specs::Names::entries_text))]
+/// Writes entries, `NAME=N` each, with commas between them, or `-` for no entries. Without memory the text stays as it
+/// is.
 pub fn put_entries_text(text: &mut String, entries: &[(List<u8>, u64)]) -> Result<(), NoMemory>
+    ensures ok { OnOk result (string_bytes text.new ≡ string_bytes text.old ++ entries_text entries.now) }
+    ensures err { OnErr result (string_bytes text.new ≡ string_bytes text.old) }
+{
+    let mut aside = String::new(*text.allocator());
+    append_entries(&mut aside, entries)?;
+    text.push_str(aside.as_str())?;
+    Ok(())
+}
+
+/// Writes entries, and on failure a part of them.
+#[tactic(auto, unfolding(crate::specs::Names::entries_text))]
+fn append_entries(text: &mut String, entries: &[(List<u8>, u64)]) -> Result<(), NoMemory>
     ensures { OnOk result (string_bytes text.new ≡ string_bytes text.old ++ entries_text entries.now) }
 {
     let Some((first, rest)) = entries.split_first() else {
@@ -60,7 +82,7 @@ fn put_entry(text: &mut String, entry: &(List<u8>, u64)) -> Result<(), NoMemory>
     ensures { OnOk result (string_bytes text.new ≡ string_bytes text.old ++ entry_text entry.now) }
 {
     let (name, number) = entry;
-    put_name_text(text, name.as_slice())?;
+    append_name(text, name.as_slice())?;
     write!(text, "={number}")?;
     Ok(())
 }

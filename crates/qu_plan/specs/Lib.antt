@@ -5,3 +5,4 @@ pub mod Evidence
 pub mod Knowledge
 pub mod Linked
 pub mod Linking
+pub mod RefusalNumber

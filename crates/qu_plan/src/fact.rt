@@ -1,10 +1,11 @@
-ghost use Rattle.std.specs.Prelude.{◌≡◌, find};
+ghost use Rattle.std.specs.Prelude.{◌≡◌, find, IfOk};
 ghost use Rattle.std.specs.Option.{option_copied};
 ghost use Rattle.qu_plan.specs.Linking.{link_in, is_fact_of, linking};
 
-use qu_base::{List, ObjectId};
+use qu_base::{List, NoMemory, ObjectId};
 use qu_objects::Link;
 use qu_stamp::Stamp;
+use std::alloc::Global;
 
 /// What the version of an object under one stamp tells of other objects.
 #[derive(Drop)]
@@ -13,6 +14,19 @@ pub struct Fact {
     pub stamp: Stamp,
     /// By rising object.
     pub links: List<Link>,
+}
+
+impl Fact {
+    /// An equal fact.
+    pub fn copy(&self, alloc: Global) -> Result<Fact, NoMemory>
+        ensures { IfOk result (λ fact. fact ≡ self.now) }
+    {
+        Ok(Fact {
+            object: self.object,
+            stamp: self.stamp,
+            links: self.links.copy(alloc)?,
+        })
+    }
 }
 
 /// The link to another object that the version of this one under this stamp has, as the facts tell.

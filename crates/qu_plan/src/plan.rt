@@ -39,11 +39,11 @@ impl CopyPlan {
 /// Why there is no plan.
 #[derive(Clone, Copy, Debug, PartialEq, Eq)]
 pub enum PlanFail {
-    /// What would be copied was accepted together with one on this object, the lowest such that can neither be copied
-    /// with it nor is known to be decided: of this object more has to be known.
+    /// Number 15: what would be copied was accepted together with one on this object, the lowest such that can neither
+    /// be copied with it nor is known to be decided: of this object more has to be known.
     Needs(ObjectId),
-    /// What would be copied was accepted together with one on this object, which has a later version that was made
-    /// together with one of the target: of the target more has to be known.
+    /// Number 16: what would be copied was accepted together with one on this object, which has a later version that
+    /// was made together with one of the target: of the target more has to be known.
     Stale(ObjectId),
     NoMemory,
 }

@@ -2,3 +2,4 @@ pub mod Meaning
 pub mod Words
 pub mod Rules
 pub mod Parties
+pub mod RefusalNumber

@@ -4,6 +4,7 @@
 mod bad;
 mod listed;
 mod parties;
+mod refusal_number;
 mod rules;
 mod words;
 
@@ -13,5 +14,6 @@ pub use parties::{
     client_by_number, read_client, read_correct_client, read_correct_replica, read_party,
     read_replica, replica_by_number,
 };
+pub use refusal_number::refusal_numbers_are_these;
 pub use rules::{read_content, read_hex, read_name, read_number, read_object, read_ranged};
 pub use words::{Words, cut_words};

@@ -3,7 +3,7 @@ ghost use Rattle.std.specs.Result.{result_map_both};
 ghost use Rattle.qu_script_words.specs.Words.{is_nil, has_bytes, words_in, is_ascii_word, next_of, end_of, next_of_part, behind_plus};
 
 use super::BadKind;
-use qu_notation::cut_words as cut_pieces;
+use qu_notation::split_at_spaces;
 use std::alloc::{AllocError, Global};
 use std::marker::Model;
 
@@ -11,7 +11,7 @@ use std::marker::Model;
 pub fn cut_words(alloc: Global, line: &[u8]) -> Result<Vec<&[u8]>, AllocError>
     ensures { IfOk result (λ words. map (λ word. word.now) words.items ≡ words_in line.now) }
 {
-    let pieces = cut_pieces(alloc, line)?;
+    let pieces = split_at_spaces(alloc, line)?;
     let mut words = Vec::new(alloc);
     for piece in pieces.as_slice() {
         if has_bytes(piece) {

@@ -8,7 +8,7 @@ mod verdict;
 mod writing_verdict;
 
 pub use formats::formats_are_codes;
-pub use reading_verdict::verdict_at;
+pub use reading_verdict::read_verdict;
 pub use refusal_number::refusal_numbers_are_these;
 pub use verdict::{ClassCode, Refusal, Verdict};
-pub use writing_verdict::append_verdict;
+pub use writing_verdict::write_verdict;

@@ -1,5 +1,5 @@
 //! Verdicts from bytes, by the formats of `specs/Formats.antt`.
-ghost use Rattle.std.specs.Prelude.{◌≡◌, ◌<◌, IfOk};
+ghost use Rattle.std.specs.Prelude.{◌≡◌, ◌<◌, IfOk, OnErr};
 ghost use Rattle.qu_base.specs.Reading.{Reads, Gives};
 ghost use Rattle.qu_verdicts.specs.RefusalNumber.{is_refusal_number};
 ghost use Rattle.qu_verdicts.specs.Formats.{class_form, plain_refusal, refusal_body, refusal_form, stamp_from, some_stamps, stamps_form, verdict_form};
@@ -14,9 +14,20 @@ use qu_objects::{MOST_PARTS, read_answer};
 use qu_stamp::{Stamp, object_from, read_stamp};
 use std::alloc::Global;
 
-/// The next verdict: its code, and what it tells.
+/// The next verdict. A refusal is that of the first field that fails. Without a verdict the text stays as it is.
+pub fn read_verdict(alloc: Global, text: &mut Cursor) -> Result<Verdict, ReadFail>
+    ensures read { Gives verdict_form result text.old text.new }
+    ensures kept { OnErr result (text.new ≡ text.old) }
+{
+    let mut ahead = text.ahead();
+    let verdict = verdict_at(alloc, &mut ahead)?;
+    *text = ahead;
+    Ok(verdict)
+}
+
+/// The code of a verdict, and what it tells.
 #[tactic(auto, unfolding(crate::specs::Formats::verdict_form))]
-pub fn verdict_at(alloc: Global, text: &mut Cursor) -> Result<Verdict, ReadFail>
+fn verdict_at(alloc: Global, text: &mut Cursor) -> Result<Verdict, ReadFail>
     ensures { Gives verdict_form result text.old text.new }
 {
     let start = text.ahead();

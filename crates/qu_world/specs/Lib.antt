@@ -5,3 +5,4 @@ pub mod Parties
 pub mod Refusals
 pub mod Growth
 pub mod Run
+pub mod RefusalNumber

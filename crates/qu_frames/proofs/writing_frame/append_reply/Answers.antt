@@ -9,5 +9,5 @@ returns c = λ mac.
     on_ok_weaker c.write_shown.result
     (reply_written c.args.replica c.args.client c.args.number c.args.round c.args.verdict.now c.args.culled.now
     c.args.shown.now mac _ _ _ _ _ _ _ c.in_ok-u8.ensures.ok c.in_ok-u8-2.ensures.ok c.in_ok-append_round.ensures
-    c.in_ok-append_verdict.ensures culled)
+    c.in_ok-write_verdict.ensures.ok culled)
     shown

@@ -3,7 +3,7 @@ use Rattle.std.proofs.Common.{◌≡◌, ◌++◌, drop}
 use Rattle.std.specs.Prelude.{string_bytes, codes}
 use Rattle.std.specs.List.{flat_map}
 use Rattle.qu_notation.specs.Names.{entry_text}
-use Rattle.qu_notation.proofs.names.put_entries_text.Given as goal
+use Rattle.qu_notation.proofs.names.append_entries.Given as goal
 
 abbrev pub invariant-loop-entry : goal.invariant-loop-entry
 invariant-loop-entry l =
