@@ -1,32 +1,19 @@
 -- Of identical answers that are more than the faulty replicas, one is of a correct replica. So the answer that
 -- completes a fetch is identical to one of a correct replica.
-use Rattle.std.proofs.Common.{◌≡◌, ℕ, zero, suc, ◌+◌, ◌<◌, ◌≤◌, Bool, true, false, not, ◌&&◌, List, [], ◌∷◌, inl, inr, refl, sym, ap, ◌∙◌, arith}
+use Rattle.std.proofs.Common.{◌≡◌, ℕ, zero, suc, ◌+◌, ◌<◌, ◌≤◌, Bool, true, false, not, ◌&&◌, List, ◌∷◌, inl, inr, refl, sym, ap, ◌∙◌, arith}
 use Rattle.std.specs.Prelude.{◌==◌}
 use Rattle.std.specs.List.{All, Contains, list_any, Any}
-use Rattle.std.proofs.lemmas.Bool.{false≢true, cases_eq, cases_lt, not-true, and_parts, and_from, or_left, or_right, eqb-true, eq-eqb}
-use Rattle.std.proofs.lemmas.Bool.Decides.{nat_tests}
+use Rattle.std.proofs.lemmas.Bool.{false≢true, cases_lt, not-true, and_parts, and_from, or_left, or_right, eqb-true, eq-eqb}
 use Rattle.std.proofs.lemmas.List.Elements.{All-contains, All-head}
 use Rattle.std.proofs.lemmas.List.Folds.{Any-from_list_any}
 use Rattle.qu_base.specs.declared.limits.TheConstants.{REPLICA_IDS}
-use Rattle.qu_base.specs.declared.party.ReplicaId.{ReplicaId}
 use Rattle.qu_waiting.specs.declared.vote.Vote.{Vote}
 use Rattle.qu_waiting.specs.Tally.{has_voted, is_for, replicas_for, count_of}
+use Rattle.qu_waiting.proofs.Votes.{none_for}
 use Rattle.qu_waiting.specs.Fetching.{Answers, same_bytes, identical_answers, completes}
 use Rattle.qu_waiting.proofs.EqualBytes.{same_as_itself}
 use Rattle.qu_claims.specs.Count.{count}
-use Rattle.qu_chain.proofs.Counting.{bit, count-both, count-not, count-le, count-some, passing, Passing, bit}
-
-further : (test : ℕ → Bool) (least n : ℕ) → least ≤ n → count least test ≤ count n test
-unfolding count
-further test zero zero order = omega arith
-further test (suc least) zero order = absurd (omega arith)
-further test least (suc n) order =
-    elim (cases_eq least (suc n)) [
-      | inl same ↦ rw same (omega arith)
-      | inr other ↦
-          let before : count least test ≤ count n test = further test least n (omega arith) in
-          omega (arith, before)
-    ]
+use Rattle.qu_chain.proofs.Counting.{bit, count-both, count-not, count-le, count-some, passing, Passing, bit, count-further}
 
 by_bit : (test : Bool) → (test ≡ true → ⊥) → bit test ≡ 0
 by_bit true never = absurd (never refl)
@@ -39,7 +26,7 @@ unfolding count
 counted_within zero n test within = omega arith
 counted_within (suc m) n test within =
     elim (cases_lt m n) [
-      | inl below ↦ further test (suc m) n (omega arith)
+      | inl below ↦ count-further test (suc m) n (omega arith)
       | inr beyond ↦
           let rest : count m test ≤ count n test = counted_within m n test within in
           let none : bit (test m) ≡ 0 =
@@ -125,12 +112,6 @@ counts_more n place first second below before after follows =
           absurd (false≢true (sym before ∙ ap first (sym (eqb-true found.index place parts.1)) ∙ parts.0))
       | inr none ↦ omega (arith, both, some, none)
     ]
-
--- whose replica did not vote has no vote that passes
-none_for : {T : Type 0} (test : T → Bool) (replica : ReplicaId) (votes : List (Vote T))
-    → has_voted replica votes ≡ false → list_any (is_for test replica.0) votes ≡ false
-none_for test replica [] none = refl
-none_for test replica (vote ∷ later) none = grind (arith, nat_tests, none_for test replica later)
 
 -- the vote of a replica that did not vote adds one, where it passes
 pub one_vote_more : {T : Type 0} (test : T → Bool) (vote : Vote T) (votes : List (Vote T))

@@ -8,29 +8,29 @@ use Rattle.qu_base.specs.declared.party.Party.{Party}
 use Rattle.qu_base.specs.declared.party.Party.TheVariants as party
 use Rattle.qu_base.specs.declared.party.ReplicaId.{ReplicaId}
 use Rattle.qu_base.specs.Bounds.{replicas}
+use Rattle.qu_base.proofs.EachItem.{each_append}
 use Rattle.qu_seal.specs.Keys.{Ring}
 use Rattle.qu_stamp.specs.declared.stamp.Stamp.{Stamp}
 use Rattle.qu_objects.specs.declared.state.ObjState.{ObjState}
-use Rattle.qu_objects.specs.States.{state_form}
 use Rattle.qu_versions.specs.Versions.{version_at}
 use Rattle.qu_frames.specs.declared.frame.Frame.{Frame}
 use Rattle.qu_frames.specs.declared.frame.Frame.TheVariants as frame
 use Rattle.qu_frames.specs.declared.frame.Letter.{Letter}
 use Rattle.qu_frames.specs.Blank.{blank_mac}
 use Rattle.qu_frames.specs.Decoding.{decoded}
-use Rattle.qu_frames.specs.Formats.{frame_form, frame_kind, kind_form, fetch_frame, fetched_frame}
+use Rattle.qu_frames.specs.Formats.{frame_form, frame_kind}
 use Rattle.qu_frames.specs.Signing.{mac_of, with_mac, signature, signed}
 use Rattle.qu_rows.specs.declared.decision.Decision.{Decision}
 use Rattle.qu_rows.specs.declared.decision.Decision.TheVariants as decision
 use Rattle.qu_rows.specs.Rows.{asked_at, decision_on}
 use Rattle.qu_rows.specs.State.{ReplicaState}
 use Rattle.qu_waiting.specs.Waiting.{TakenRequest}
-use Rattle.qu_fitting.specs.Fits.{StateFits, VersionFits}
+use Rattle.qu_fitting.specs.Fits.{StateFits}
 use Rattle.qu_fitting.specs.Holding.{accept_all}
 use Rattle.qu_replica.specs.Step.{answer_frame, fetches_from, fetches_of, version_letter, version_letters, learned, handled, carried_out, if_handled, replica_on_frame, replica_on_received}
+use Rattle.qu_replica.proofs.Fits.FitSteps.{fetched_fits}
 use Rattle.qu_fitting.proofs.FitAccepted.{version_fits}
 use Rattle.qu_fitting.proofs.FitRequests.{blank_sized}
-use Rattle.qu_fitting.proofs.FitVersions.{version-spelled}
 use Rattle.qu_client.specs.declared.state.ClientState.{ClientState}
 use Rattle.qu_client.specs.declared.work.Work.{Work}
 use Rattle.qu_client.specs.declared.whom.Whom.{Whom}
@@ -38,36 +38,12 @@ use Rattle.qu_client.specs.Rounds.{request_of, requests}
 use Rattle.qu_client.proofs.Sent.{each_letter}
 use Rattle.qu_claims.specs.Carried.{Carries}
 use Rattle.qu_runs.proofs.Fits.Carrying.{same_kind, signed_spelled, signed_carries}
-use Rattle.qu_world.proofs.Each.{each_append}
 
 -- something holds of each version that the letter carries
 abbrev pub TellsOnly : (ObjectId → Stamp → ObjState → Type 0) → Letter → Type 0
 TellsOnly P letter =
     (replica : ReplicaId) (object : ObjectId) (stamp : Stamp) (version : ObjState) (mac : List ℕ)
     → Carries letter (frame.Fetched replica object stamp version mac) → P object stamp version
-
--- the fields of a version that fits
-pub fetched_fit : (replica : ReplicaId) (object : ObjectId) (stamp : Stamp) (version : ObjState) (mac : List ℕ)
-    → frame_form.Fits (frame.Fetched replica object stamp version mac) → state_form.Fits version
-unfolding frame_form kind_form fetched_frame
-fetched_fit replica object stamp version mac fits = ((((fits.1).1).1).1).1.0
-
--- a version that is held fits in the answer to a fetch that fits
-answer_fits : (state : ReplicaState) (to : ReplicaId) (object : ObjectId) (stamp : Stamp) (mac : List ℕ)
-    (version : ObjState) → StateFits state → frame_form.Fits (frame.Fetch to object stamp mac) → VersionFits version
-    → frame_form.Fits (frame.Fetched state.me object stamp version blank_mac)
-unfolding frame_form kind_form fetch_frame fetched_frame
-answer_fits state to object stamp mac version fits within held =
-    let fields = (within.1).1 in (
-      ((omega arith, omega arith), refl),
-      (
-        ((omega arith, omega arith), refl),
-        (
-          (omega arith, fits.me),
-          ((fields.1).0, (((fields.1).1).0, (version-spelled version held, blank_sized))),
-        ),
-      ),
-    )
 
 module _ (P : ObjectId → Stamp → ObjState → Type 0) where
   -- what is signed of another kind carries none
@@ -162,7 +138,7 @@ module _ (P : ObjectId → Stamp → ObjState → Type 0) where
   version_letters_tell state to object stamp mac fits within holds None is = tt
   version_letters_tell state to object stamp mac fits within holds (Some version) is = (
     version_tells state to object stamp version
-        (answer_fits state to object stamp mac version fits within
+        (fetched_fits state to object stamp mac version fits within
         (version_fits object stamp state.versions version fits.versions is))
         (holds object stamp version is),
     tt,

@@ -1,8 +1,8 @@
 -- In a run each version that a letter carries was found by a correct replica before, and so was each answer of a
 -- correct replica to a fetch that runs.
-use Rattle.std.proofs.Common.{◌≡◌, ℕ, zero, suc, ◌+◌, ◌<◌, ◌≤◌, true, false, List, [], ◌∷◌, ◌++◌, length, get_or, Option, None, Some, Ok, inl, inr, refl, sym, ap, subst, ◌∙◌, arith, add-one, slice_get}
+use Rattle.std.proofs.Common.{◌≡◌, ℕ, zero, suc, ◌+◌, ◌<◌, ◌≤◌, false, List, [], ◌∷◌, ◌++◌, length, get_or, Option, None, Some, Ok, inl, inr, refl, sym, ap, subst, ◌∙◌, arith, add-one, slice_get}
 use Rattle.std.specs.List.{AllByRecursion}
-use Rattle.std.proofs.lemmas.Bool.{and_parts, false≢true, ltb-true}
+use Rattle.std.proofs.lemmas.Bool.{false≢true, ltb-true}
 use Rattle.std.proofs.lemmas.Option.{same_Some, slice_get_within}
 use Rattle.qu_base.specs.declared.limits.TheConstants.{OBJECT_IDS, REPLICA_IDS}
 use Rattle.qu_base.specs.declared.party.ObjectId.{ObjectId}
@@ -11,7 +11,8 @@ use Rattle.qu_base.specs.declared.party.Party.TheVariants as party
 use Rattle.qu_base.specs.declared.party.ReplicaId.{ReplicaId}
 use Rattle.qu_base.specs.Bounds.{replicas}
 use Rattle.qu_base.proofs.ThresholdFacts.{replicas_are_few, replicas_are_count}
-use Rattle.qu_seal.specs.Keys.{Ring, has_party, verifies}
+use Rattle.qu_base.proofs.EachItem.{each_append, each_weaker}
+use Rattle.qu_seal.specs.Keys.{Ring}
 use Rattle.qu_stamp.specs.declared.stamp.Stamp.{Stamp}
 use Rattle.qu_waiting.specs.declared.vote.Vote.{Vote}
 use Rattle.qu_objects.specs.declared.state.ObjState.{ObjState}
@@ -22,14 +23,14 @@ use Rattle.qu_frames.specs.declared.frame.Frame.TheVariants as frame
 use Rattle.qu_frames.specs.declared.frame.Letter.{Letter}
 use Rattle.qu_frames.specs.Decoding.{decoded}
 use Rattle.qu_frames.specs.Formats.{frame_form}
-use Rattle.qu_frames.specs.Signing.{sender, brought, is_signed}
-use Rattle.qu_frames.proofs.Signed.{brought_is_decoded, brought_is_signed}
+use Rattle.qu_frames.specs.Signing.{sender, brought}
+use Rattle.qu_frames.proofs.Signed.{brought_is_decoded, sender_known}
 use Rattle.qu_rows.specs.State.{ReplicaState}
 use Rattle.qu_waiting.specs.Waiting.{Running}
 use Rattle.qu_fitting.specs.Fits.{StateFits, StepFits}
 use Rattle.qu_replica.specs.Step.{replica_on_received, replica_step}
 use Rattle.qu_fitting.proofs.FitState.{opening-fits}
-use Rattle.qu_replica.proofs.Fits.FitSteps.{on_received-fits}
+use Rattle.qu_replica.proofs.Fits.FitSteps.{on_received-fits, fetched_state}
 use Rattle.qu_trace.specs.declared.event.Event.{Event}
 use Rattle.qu_trace.specs.declared.trace.Entry.{Entry}
 use Rattle.qu_trace.specs.declared.trace.Setup.{Setup}
@@ -40,7 +41,7 @@ use Rattle.qu_trace.proofs.LetterLaws.{letters-push}
 use Rattle.qu_world.specs.State.{WorldState, kinds_at, ring_of}
 use Rattle.qu_world.specs.Step.{world_step, unchanged, at_replica}
 use Rattle.qu_world.specs.Run.{IsRun}
-use Rattle.qu_world.proofs.Each.{each_append, each_numbered, each_weaker, set_cases}
+use Rattle.qu_world.proofs.Each.{each_numbered, set_cases}
 use Rattle.qu_claims.specs.Handling.{WasFound}
 use Rattle.qu_claims.specs.Premises.{AreUnforged}
 use Rattle.qu_claims.specs.Times.{world_after}
@@ -52,7 +53,7 @@ use Rattle.qu_runs.proofs.Small.{some_entry}
 use Rattle.qu_runs.proofs.Worlds.Objects.{few_kinds}
 use Rattle.qu_runs.proofs.Worlds.OpeningReplicas.{opening_at, all_replicas, keys_are, me_is, bounds_are}
 use Rattle.qu_runs.proofs.Worlds.WorldGrowth.{world_after-none, world_after-next}
-use Rattle.qu_accepts.proofs.ToldVersions.{TellsOnly, fetched_fit, asked_tells, on_received_tells}
+use Rattle.qu_accepts.proofs.ToldVersions.{TellsOnly, asked_tells, on_received_tells}
 use Rattle.qu_runs.proofs.Fits.ClientLetters.{step_sends, tick_sends, invoke_sends}
 use Rattle.qu_accepts.proofs.Votes.{BringsVote, Counts, AreCounted, on_received_counted, opening_counted}
 
@@ -144,13 +145,6 @@ unforged_sender world to text unforged taken brings correct =
     let it = unforged.sent taken brings correct in
     record { number = it.number; letter = it.letter; is_letter = it.is_letter; to_is = it.to_is; text_is = it.text_is }
 
--- whoever is brought a frame shares a key with its sender
-sender_known : (ring : Ring) (to : Party) (text : List ℕ) (taken : Frame) → brought ring to text ≡ Some taken
-    → has_party ring (sender taken) ≡ true
-unfolding is_signed verifies
-sender_known ring to text taken brings =
-    (and_parts _ _ (and_parts _ _ (brought_is_signed ring to text taken brings)).0).0
-
 module _ (trace : Trace) (count : ℕ) (are : IsTrueWorld trace count (world_after trace count)) where
   abbrev world : WorldState
   world = world_after trace count
@@ -177,7 +171,7 @@ module _ (trace : Trace) (count : ℕ) (are : IsTrueWorld trace count (world_aft
             are.letters it.is_letter in
             record {
               version = is.version;
-              fits = fetched_fit vote.replica object stamp is.version is.mac (fits sent decodes);
+              fits = fetched_state vote.replica object stamp is.version is.mac (fits sent decodes);
               value = is.value;
               found = tells vote.replica object stamp is.version is.mac (ap decoded it.text_is ∙ decodes);
             };

@@ -1,11 +1,12 @@
 -- The answers that a replica has of the versions that it fetches: those that it had, and the one that a frame brings.
-use Rattle.std.proofs.Common.{◌≡◌, ℕ, ◌+◌, Bool, true, cond, List, [], ◌∷◌, Option, None, Some, refl, sym, ap, subst, ◌∙◌, filter, inl, inr}
+use Rattle.std.proofs.Common.{◌≡◌, ℕ, ◌+◌, Bool, true, cond, List, [], ◌∷◌, Option, None, Some, refl, sym, ap, subst, ◌∙◌, inl, inr}
 use Rattle.std.specs.Prelude.{slice_get, ◌==◌, is_some, not}
 use Rattle.std.specs.List.{AllByRecursion}
 use Rattle.std.proofs.lemmas.Bool.{cond_both, and_parts, eqb-true, cases_Bool}
 use Rattle.std.proofs.lemmas.Option.{none-some, same_Some}
 use Rattle.qu_base.specs.declared.party.ObjectId.{ObjectId}
 use Rattle.qu_base.specs.declared.party.ReplicaId.{ReplicaId}
+use Rattle.qu_base.proofs.EachItem.{each_append, each_kept}
 use Rattle.qu_seal.specs.Keys.{Ring}
 use Rattle.qu_stamp.specs.declared.stamp.Stamp.{Stamp}
 use Rattle.qu_stamp.specs.Stamp.{same_stamp}
@@ -29,7 +30,6 @@ use Rattle.qu_fitting.specs.Holding.{accept, accept_all, replica_at_start}
 use Rattle.qu_waiting.specs.Slots.{is_running, fetch_under, with_fetch, with_fetches, with_vote, with_votes, without_fetch}
 use Rattle.qu_replica.specs.Step.{has_kind, is_found, with_found, with_told, learned, handled, carried_out, if_handled, replica_on_frame, replica_on_received}
 use Rattle.qu_replica.proofs.States.Learning.{is_learned}
-use Rattle.qu_world.proofs.Each.{each_append}
 
 -- equal keys are one
 pub same_key : (object other : ObjectId) (stamp at : Stamp) → is_same_key object stamp other at ≡ true
@@ -54,13 +54,6 @@ pub record Counts (need : ℕ) (P : ObjectId → Stamp → Vote (List ℕ) → T
 
 abbrev pub AreCounted : ℕ → (ObjectId → Stamp → Vote (List ℕ) → Type 0) → List Running → Type 0
 AreCounted need P fetching = AllByRecursion (Counts need P) fetching
-
-each_kept : {X : Type 0} (P : X → Type 0) (test : X → Bool) (items : List X) → AllByRecursion P items
-    → AllByRecursion P (filter test items)
-each_kept P test [] each = tt
-each_kept P test (item ∷ later) each =
-    cond_both (test item) _ _ (AllByRecursion P) (λ _. (each.0, each_kept P test later each.1))
-    (λ _. each_kept P test later each.1)
 
 -- what is accepted changes no fetch
 accept_all_fetching : (state : ReplicaState) (accepted : List Accepted)

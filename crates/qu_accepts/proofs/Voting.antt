@@ -14,6 +14,7 @@ use Rattle.qu_base.specs.declared.party.ReplicaId.{ReplicaId}
 use Rattle.qu_base.specs.Bounds.{replicas}
 use Rattle.qu_base.proofs.PrefixCodes.{one_spelling}
 use Rattle.qu_base.proofs.ThresholdFacts.{replicas_are_few}
+use Rattle.qu_base.proofs.EachItem.{each_weaker}
 use Rattle.qu_stamp.specs.declared.stamp.Stamp.{Stamp}
 use Rattle.qu_waiting.specs.declared.vote.Vote.{Vote}
 use Rattle.qu_waiting.specs.Fetching.{same_bytes, completes}
@@ -29,11 +30,11 @@ use Rattle.qu_waiting.specs.Waiting.{Running}
 use Rattle.qu_waiting.specs.Slots.{fetch_under}
 use Rattle.qu_replica.specs.Step.{is_found, completes_fetch, learned}
 use Rattle.qu_replica.proofs.States.Learning.{Learned, is_learned}
+use Rattle.qu_replica.proofs.Fits.FitSteps.{fetched_state}
 use Rattle.qu_trace.specs.declared.trace.Entry.{Entry}
 use Rattle.qu_trace.specs.declared.trace.Trace.{Trace}
 use Rattle.qu_trace.specs.Faulty.{is_good}
 use Rattle.qu_world.specs.Run.{IsRun}
-use Rattle.qu_world.proofs.Each.{each_weaker}
 use Rattle.qu_claims.specs.Carried.{Brings, handed}
 use Rattle.qu_claims.specs.Handling.{WasFound, Learns}
 use Rattle.qu_claims.specs.Premises.{AreUnforged}
@@ -43,7 +44,6 @@ use Rattle.qu_runs.proofs.Fits.Fitting.{handed_fits}
 use Rattle.qu_runs.proofs.Worlds.FewFaults.{few_faulty}
 use Rattle.qu_runs.proofs.Worlds.OpeningReplicas.{keys_are, me_is}
 use Rattle.qu_accepts.proofs.GoodVoters.{GoodVote, completing_voter}
-use Rattle.qu_accepts.proofs.ToldVersions.{fetched_fit}
 use Rattle.qu_accepts.proofs.Votes.{BringsVote, Counts, found_under}
 use Rattle.qu_accepts.proofs.TrueVotes.{keyed, IsOfCorrect, VoteFound, IsVote, IsTrueWorld, unforged_sender, brought_vote, true_world}
 
@@ -141,7 +141,7 @@ module _ (trace : Trace) (is_run : IsRun trace) (have : ArePlain trace) (at : �
       (All-from_recursion (IsVote trace at object stamp) (new ∷ votes) each) good.among).told
       (not-true _ good.correct) in
       let fits : state_form.Fits version =
-      fetched_fit replica object stamp version mac
+      fetched_state replica object stamp version mac
       (handed_fits trace is_run have.typed at entry below me text hands taken
       (brought_is_decoded old.keys (party.Replica old.me) text taken brings)) in
       let text_is : vote.value ≡ spelled = (bytes_eq-Decides vote.value spelled).0 good.passes in

@@ -1,6 +1,6 @@
 -- Two replicas that perform an act upon the same histories store the same versions, where what both have of the
 -- versions upon which it is performed is the same.
-use Rattle.std.proofs.Common.{◌≡◌, ℕ, List, [], ◌∷◌, inl, inr, refl, sym, ap, subst, ◌∙◌}
+use Rattle.std.proofs.Common.{◌≡◌, ℕ, List, sym, ap, subst, ◌∙◌}
 use Rattle.std.proofs.lemmas.Option.{same_Some}
 use Rattle.qu_base.specs.declared.party.ClientId.{ClientId}
 use Rattle.qu_base.specs.declared.party.ObjectId.{ObjectId}
@@ -8,7 +8,6 @@ use Rattle.qu_stamp.specs.declared.candidate.Candidate.{Candidate}
 use Rattle.qu_history.specs.declared.sets.SetOf.{SetOf}
 use Rattle.qu_history.specs.Sets.{entries_of, method_at}
 use Rattle.qu_objects.specs.declared.act.Method.{Method}
-use Rattle.qu_objects.specs.declared.kind.Value.{Value}
 use Rattle.qu_objects.specs.declared.state.ObjState.{ObjState}
 use Rattle.qu_objects.specs.Performing.{performed_values}
 use Rattle.qu_kept.specs.Performing.{row_by, links_to_others, state_after}
@@ -18,37 +17,8 @@ use Rattle.qu_rows.specs.Rows.{asked_of}
 use Rattle.qu_rows.specs.State.{ReplicaState}
 use Rattle.qu_claims.specs.Grounds.{Performs}
 use Rattle.qu_claims.specs.Parts.{Names, values_on}
+use Rattle.qu_claims.proofs.PartValues.{same_values, values_same}
 use Rattle.qu_agreed.proofs.CopiesAgree.{DoBothHold}
-
-abbrev first_of : Value → List Value → Value
-first_of other [] = other
-first_of other (value ∷ later) = value
-
-abbrev later_of : List Value → List Value
-later_of [] = []
-later_of (value ∷ later) = later
-
--- what is the same on each object that parts name
-values_same : (first second : ObjectId → Value) (parts : List (ObjectId × Method))
-    → ((object : ObjectId) → Names parts object → first object ≡ second object)
-    → values_on first parts ≡ values_on second parts
-values_same first second [] same = refl
-values_same first second (part ∷ later) same =
-    let head : first part.0 ≡ second part.0 = same part.0 (inl refl) in
-    let rest : values_on first later ≡ values_on second later =
-    values_same first second later (λ object names. same object (inr names)) in
-    λ i. head i ∷ rest i
-
--- and back
-value_same : (first second : ObjectId → Value) (parts : List (ObjectId × Method))
-    → values_on first parts ≡ values_on second parts → (object : ObjectId) → Names parts object
-    → first object ≡ second object
-value_same first second [] same object never = absurd never
-value_same first second (part ∷ later) same object (inl is) =
-    subst (λ (it : ObjectId). first it ≡ second it) is
-    (ap (first_of (first part.0)) same)
-value_same first second (part ∷ later) same object (inr there) =
-    value_same first second later (ap later_of same) object there
 
 module _ (one two : ReplicaState) (agreed : DoBothHold one two) (bounds : ℕ) (here : one.keys.bounds ≡ bounds)
     (there : two.keys.bounds ≡ bounds) (sets others : List SetOf)
@@ -89,7 +59,7 @@ module _ (one two : ReplicaState) (agreed : DoBothHold one two) (bounds : ℕ) (
     values_before : values_on (λ (object : ObjectId). (before object).value) parts
         ≡ values_on (λ (object : ObjectId). (beside object).value) parts
     values_before =
-        values_same (λ object. (before object).value) (λ object. (beside object).value) parts
+        same_values (λ object. (before object).value) (λ object. (beside object).value) parts
         (λ object names. ap (λ (state : ObjState). state.value) (befores_same object names))
 
     values_after : values_on (λ (object : ObjectId). (it.versions object).value) parts
@@ -101,7 +71,7 @@ module _ (one two : ReplicaState) (agreed : DoBothHold one two) (bounds : ℕ) (
         → it.versions object ≡ also.versions object
     versions_same object names stamps =
         let value : (it.versions object).value ≡ (also.versions object).value =
-        value_same (λ object. (it.versions object).value) (λ object. (also.versions object).value) parts
+        values_same (λ object. (it.versions object).value) (λ object. (also.versions object).value) parts
         values_after object names in
         let state : before object ≡ beside object = befores_same object names in
         it.performed.afters object names

@@ -1,6 +1,5 @@
 -- Versions that correct replicas store under one stamp are one, where no two texts have one digest.
-use Rattle.std.proofs.Common.{◌≡◌, ℕ, zero, suc, ◌+◌, ◌<◌, ◌≤◌, length, Some, inl, inr, sym, ap, subst, ◌∙◌, arith}
-use Rattle.std.specs.Prelude.{slice_get}
+use Rattle.std.proofs.Common.{◌≡◌, ℕ, zero, suc, ◌+◌, ◌<◌, ◌≤◌, Some, inl, inr, sym, ap, subst, ◌∙◌, arith}
 use Rattle.std.proofs.lemmas.Bool.{cases_lt}
 use Rattle.std.proofs.lemmas.Option.{none-some, same_Some}
 use Rattle.qu_base.specs.declared.party.ObjectId.{ObjectId}
@@ -18,7 +17,6 @@ use Rattle.qu_rows.specs.State.{ReplicaState}
 use Rattle.qu_trace.specs.declared.trace.Trace.{Trace}
 use Rattle.qu_world.specs.Run.{IsRun}
 use Rattle.qu_claims.specs.Digested.{NoCollision}
-use Rattle.qu_claims.specs.Times.{world_after}
 use Rattle.qu_runs.specs.Plain.{ArePlain}
 use Rattle.qu_runs.proofs.Acts.OneAct.{acts_are_one}
 use Rattle.qu_accepts.proofs.Handled.{handled}
@@ -27,7 +25,7 @@ use Rattle.qu_agreed.proofs.ActsAgree.{same_performed}
 use Rattle.qu_agreed.proofs.Alike.{same_histories, same_objects}
 use Rattle.qu_agreed.proofs.CopiesAgree.{IsCopyMade, StoresCopy, DoBothHold, same_copies}
 use Rattle.qu_agreed.proofs.HowMade.{StoresAct, handles_it, asked_it, stores_it, fresh_it, origin_it}
-use Rattle.qu_agreed.proofs.Made.{IsFirst, IsAdded, IsMadeBy, made-later, stored_made, upon_made}
+use Rattle.qu_agreed.proofs.Made.{IsFirst, IsAdded, IsMadeBy, made-later, upon_made}
 
 module _ (trace : Trace) (is_run : IsRun trace) (have : ArePlain trace) where
   -- whatever was made by this time under one stamp is one version
@@ -219,12 +217,3 @@ module _ (trace : Trace) (is_run : IsRun trace) (have : ArePlain trace) where
 
     pub agree : (count : ℕ) → DoAgreeBy count
     agree count = agree_up_to count count (omega arith)
-
-    -- what two replicas of a run have under one stamp is one version
-    pub stored_agree : (count : ℕ) → count ≤ length trace.entries → (place elsewhere : ℕ) (one two : ReplicaState)
-        → slice_get (world_after trace count).replicas place ≡ Some one
-        → slice_get (world_after trace count).replicas elsewhere ≡ Some two → DoBothHold one two
-    stored_agree count within place elsewhere one two is_one is_two =
-        both_hold count (agree count) count (omega arith) count (omega arith) one two
-        (stored_made trace is_run have count within place one is_one)
-        (stored_made trace is_run have count within elsewhere two is_two)

@@ -4,6 +4,7 @@ use Rattle.std.proofs.Common.{◌≡◌, List, length, Some, refl, sym, ap, subs
 use Rattle.std.specs.Prelude.{Contains}
 use Rattle.qu_base.specs.declared.party.ObjectId.{ObjectId}
 use Rattle.qu_base.specs.declared.party.Party.TheVariants as party
+use Rattle.qu_base.proofs.Items.{contains_at}
 use Rattle.qu_seal.specs.declared.constants.TheConstants.{SETS_TAG}
 use Rattle.qu_seal.specs.Digesting.{digest_of}
 use Rattle.qu_stamp.specs.declared.stamp.Stamp.{Stamp}
@@ -23,7 +24,6 @@ use Rattle.qu_trace.specs.declared.trace.Entry.{Entry}
 use Rattle.qu_trace.specs.declared.trace.Trace.{Trace}
 use Rattle.qu_world.specs.Run.{IsRun}
 use Rattle.qu_world.proofs.Each.{each_at}
-use Rattle.qu_machine.proofs.Firsts.{contains_at}
 use Rattle.qu_claims.specs.Digested.{Text, texts_of, digested, NoCollision}
 use Rattle.qu_claims.specs.Grounds.{Accepts}
 use Rattle.qu_claims.specs.Handled.{Request, handled_by}

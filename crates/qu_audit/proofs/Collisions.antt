@@ -1,9 +1,10 @@
 -- What is seen of the digests of a run, event by event, and the first two texts that collide.
 use Rattle.std.proofs.Common.{◌≡◌, ℕ, ◌+◌, ◌<◌, ◌≤◌, Bool, true, false, cond, List, Option, None, Some, refl, sym, ap, subst, ◌∙◌, inl, inr, arith}
-use Rattle.std.specs.Prelude.{is_some, Contains}
+use Rattle.std.specs.Prelude.{Contains}
 use Rattle.std.proofs.lemmas.Bool.{false≢true, cases_Bool, cases_lt}
 use Rattle.std.proofs.lemmas.Option.{none-some, same_Some}
 use Rattle.qu_base.specs.declared.party.Digest.{Digest}
+use Rattle.qu_base.proofs.Items.{some_found}
 use Rattle.qu_seal.specs.Digesting.{digest_of}
 use Rattle.qu_trace.specs.declared.trace.Trace.{Trace}
 use Rattle.qu_trace.specs.Earliest.{IsUpTo}
@@ -18,10 +19,6 @@ use Rattle.qu_audit.proofs.Clashes.{HasClash, clash_found, clash_least}
 use Rattle.qu_audit.proofs.Equalities.{decides_text}
 
 -- ---- one event more
-
-some_in : {X : Type 0} (found : Option X) → is_some found ≡ true → (it : X) × (found ≡ Some it)
-some_in None is = absurd (false≢true is)
-some_in (Some it) is = (it, refl)
 
 module _ (trace : Trace) (count : ℕ) (old new : Digests) (knows : Knows trace count old)
     (notes : Notes (look old) (look new) (count + 1) (texts_by trace (count + 1))) where
@@ -54,7 +51,7 @@ module _ (trace : Trace) (count : ℕ) (old new : Digests) (knows : Knows trace 
   noted_now : (text : Text) → Contains (texts_by trace (count + 1)) text → WasSeen new (digest_of_text text) (count + 1)
   noted_now text held =
       let it : (seen : Seen) × (look new (digest_of_text text) ≡ Some seen) =
-      some_in (look new (digest_of_text text)) (notes.noted text held) in
+      some_found (look new (digest_of_text text)) (notes.noted text held) in
       record { seen = it.0; found = it.1; order = seen_within (digest_of_text text) it.0 it.1 }
 
   kept_seen : (digest : Digest) (event : ℕ) → WasSeen old digest event → WasSeen new digest event

@@ -5,32 +5,12 @@ use Rattle.std.specs.Bool.{Decides}
 use Rattle.std.specs.Cmp.Lexicographic.{pointwise, bytes_decides}
 use Rattle.std.proofs.lemmas.Bool.{false≢true, and_parts, and_from}
 use Rattle.std.proofs.lemmas.Bool.Decides.{Decides-eqb}
-use Rattle.qu_base.specs.declared.party.ClientId.{ClientId}
-use Rattle.qu_base.specs.declared.party.Digest.{Digest}
-use Rattle.qu_base.specs.declared.party.Party.{Party}
-use Rattle.qu_base.specs.declared.party.Party.TheVariants as party
-use Rattle.qu_base.specs.declared.party.ReplicaId.{ReplicaId}
 use Rattle.qu_stamp.specs.Candidate.{same}
-use Rattle.qu_stamp.specs.Stamp.{same_digest}
 use Rattle.qu_stamp.proofs.Order.{decides_candidates}
 use Rattle.qu_history.specs.History.{ObjectHistory}
-use Rattle.qu_trace.specs.Faulty.{is_same}
 use Rattle.qu_claims.specs.Digested.{Text}
 use Rattle.qu_audit.specs.Digesting.{same_text}
 use Rattle.qu_audit.specs.Forging.{same_history, same_mac}
-
-pub decides_party : (a b : Party) → Decides (is_same a b) (a ≡ b)
-decides_party (party.Replica a) (party.Replica b) = (
-  λ same. ap (λ (it : ℕ). (let who : ReplicaId = record { 0 = it } in party.Replica who))
-      ((Decides-eqb a.0 b.0).0 same),
-  λ same. (Decides-eqb a.0 b.0).1 (cc),
-)
-decides_party (party.Replica a) (party.Client b) = (λ same. absurd (false≢true same), λ same. absurd (cc))
-decides_party (party.Client a) (party.Replica b) = (λ same. absurd (false≢true same), λ same. absurd (cc))
-decides_party (party.Client a) (party.Client b) = (
-  λ same. ap (λ (it : ℕ). (let who : ClientId = record { 0 = it } in party.Client who)) ((Decides-eqb a.0 b.0).0 same),
-  λ same. (Decides-eqb a.0 b.0).1 (cc),
-)
 
 pub decides_mac : (a b : Option (List ℕ)) → Decides (same_mac a b) (a ≡ b)
 decides_mac None None = (λ same. refl, λ same. refl)
@@ -67,11 +47,4 @@ decides_text a b = (
       λ i. record { tag = tags i; bytes = bytes i },
   λ equal. and_from _ _ ((Decides-eqb a.tag b.tag).1 (ap (λ (it : Text). it.tag) equal))
       ((bytes_decides a.bytes b.bytes).1 (ap (λ (it : Text). it.bytes) equal)),
-)
-
-pub decides_digest : (a b : Digest) → Decides (same_digest a b) (a ≡ b)
-decides_digest a b = (
-  λ alike. ap (λ (bytes : List ℕ). (let digest : Digest = record { 0 = bytes } in digest))
-      ((bytes_decides a.0 b.0).0 alike),
-  λ equal. (bytes_decides a.0 b.0).1 (ap (λ (digest : Digest). digest.0) equal),
 )

@@ -3,11 +3,12 @@ use Rattle.std.proofs.Common.{◌≡◌, ℕ, zero, suc, Bool, true, false, cond
 use Rattle.std.specs.Prelude.{not, ◌&&◌, ◌||◌, nat_eq, slice_get, Contains}
 use Rattle.std.specs.Cmp.Lexicographic.{pointwise, bytes_decides}
 use Rattle.std.specs.List.{list_all, list_any, flat_map}
-use Rattle.std.proofs.lemmas.Bool.{false≢true, cases_Bool, or_cases, and_parts, and_from, not-true, not_from_false}
+use Rattle.std.proofs.lemmas.Bool.{false≢true, cases_Bool, or_cases, and_parts, and_from, not-true, not_from_false, and_right}
 use Rattle.std.proofs.lemmas.Option.{none-some, same_Some}
 use Rattle.qu_base.specs.declared.party.Party.{Party}
 use Rattle.qu_base.specs.declared.party.Party.TheVariants as party
 use Rattle.qu_base.specs.declared.party.ReplicaId.{ReplicaId}
+use Rattle.qu_base.proofs.Items.{contains_at, any_contained}
 use Rattle.qu_history.specs.declared.sealed.Sealed.{Sealed}
 use Rattle.qu_history.specs.declared.sets.SetOf.{SetOf}
 use Rattle.qu_history.specs.Culling.{is_right}
@@ -19,12 +20,13 @@ use Rattle.qu_trace.specs.declared.trace.Entry.{Entry}
 use Rattle.qu_trace.specs.declared.trace.Setup.{Setup}
 use Rattle.qu_trace.specs.Faulty.{is_same, is_faulty}
 use Rattle.qu_trace.specs.Letters.{letters_of}
+use Rattle.qu_trace.proofs.Parties.{decides_party}
 use Rattle.qu_world.specs.State.{WorldState, ring_of, numbered}
 use Rattle.qu_claims.specs.Handled.{is_of_setup, is_handler, shown_by, entries_in, entries_brought, entries_to}
 use Rattle.qu_claims.specs.Premises.{HasSent, WasShown, AreUnforged}
 use Rattle.qu_audit.specs.Forging.{ShownLetter, is_letter, was_sent, is_unsent, letter_shown, shown_in_all, is_like, is_showing, was_shown, is_unshown, has_unshown, asks_unshown, shows_unshown, is_forged_frame, is_forged_text}
-use Rattle.qu_audit.proofs.Lists.{Passing, passing, any_at, any_flat, any_mapped, any_contained, contained}
-use Rattle.qu_audit.proofs.Equalities.{decides_party, decides_mac, decides_history}
+use Rattle.qu_audit.proofs.Lists.{Passing, passing, any_at, any_flat, any_mapped}
+use Rattle.qu_audit.proofs.Equalities.{decides_mac, decides_history}
 
 -- ---- letters
 
@@ -98,7 +100,7 @@ shown_found world me sealed shown =
       is_letter = by.at;
       from_is = (decides_party (by.item).from (party.Replica (sealed.history).replica)).0 parts.0;
       shown = it.item;
-      by_letter = contained (shown_by by.item) it.place it.item it.at;
+      by_letter = contains_at (shown_by by.item) it.place it.item it.at;
       history_is = (decides_history (it.item).history sealed.history).0 more.1;
       mac_is = (decides_mac (slice_get (it.item).macs me.0) (slice_get sealed.macs me.0)).0 more.0;
     }
@@ -232,7 +234,8 @@ not_shown world me text unforged some =
     (entries_to world.setup text (party.Replica me)) = passing _ _ some in
     let parts = and_parts _ _ it.passes in
     let more = and_parts _ _ parts.1 in
-    let held : Contains (entries_to world.setup text (party.Replica me)) it.item = contained _ it.place it.item it.at in
+    let held : Contains (entries_to world.setup text (party.Replica me)) it.item =
+    contains_at _ it.place it.item it.at in
     false≢true (sym (not-true _ more.0) ∙ shown_is world me it.item
     (unforged.shown me it.item refl held more.1 (not-true _ parts.0)))
 
@@ -268,10 +271,6 @@ and_true : (signed : Bool) → (signed && true) ≡ signed
 and_true true = refl
 and_true false = refl
 
-and_false : (signed : Bool) → (signed && false) ≡ false
-and_false true = refl
-and_false false = refl
-
 verified : (setup : Setup) (entries : List Entry) (shown : List ShownLetter) (to : Party) (text : List ℕ)
     (frame : Frame) (signed suspected : Bool)
     → (is_unsent setup entries to text frame || shows_unshown setup shown to frame) ≡ suspected
@@ -292,4 +291,4 @@ pub not_forged : (setup : Setup) (entries : List Entry) (shown : List ShownLette
     → false ≡ is_forged_frame setup entries shown to text (if_signed (ring_of setup) to text (Ok frame))
 not_forged setup entries shown to text frame suspected =
     let signed : Bool = is_signed (ring_of setup) to text frame in
-    sym (verified setup entries shown to text frame signed false suspected ∙ and_false signed)
+    sym (verified setup entries shown to text frame signed false suspected ∙ and_right signed false refl)

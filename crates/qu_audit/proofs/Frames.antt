@@ -1,9 +1,9 @@
 -- What bytes are decoded to, by the frame that they are, and that an event brings the same at all times.
-use Rattle.std.proofs.Common.{◌≡◌, ℕ, zero, suc, List, [], ◌++◌, take, drop, Option, None, Some, Result, Ok, Err, refl, sym, ap, subst, ◌∙◌}
+use Rattle.std.proofs.Common.{◌≡◌, ℕ, List, [], ◌++◌, take, drop, Option, None, Some, Result, Ok, Err, refl, sym, ap, subst, ◌∙◌}
 use Rattle.std.specs.Prelude.{option_map, slice_get}
 use Rattle.std.proofs.lemmas.Grind.{flat_map-append}
 use Rattle.std.proofs.lemmas.List.{take-append-drop}
-use Rattle.std.proofs.lemmas.Option.{none-some, slice_get_within}
+use Rattle.std.proofs.lemmas.Option.{none-some}
 use Rattle.qu_base.specs.declared.bad_text.BadText.{BadText}
 use Rattle.qu_base.specs.declared.party.Party.{Party}
 use Rattle.qu_seal.specs.Keys.{Ring}
@@ -15,8 +15,8 @@ use Rattle.qu_trace.specs.declared.event.Event.TheVariants.{Invoke, Deliver, Tic
 use Rattle.qu_trace.specs.declared.trace.Entry.{Entry}
 use Rattle.qu_trace.specs.declared.trace.Setup.{Setup}
 use Rattle.qu_trace.specs.Letters.{letters_of, numbered, offered_by}
-use Rattle.qu_trace.proofs.LetterLaws.{slice_get-append_left}
-use Rattle.qu_claims.specs.Handled.{shown_in}
+use Rattle.qu_trace.proofs.LetterLaws.{numbered-append}
+use Rattle.qu_claims.proofs.Handled.{none_shown}
 use Rattle.qu_trace.specs.Decoded.{frame_found, frame_offered, frame_offered_at, IsFrameOf}
 use Rattle.qu_trace.proofs.DecodedLaws.{decoded_to}
 use Rattle.qu_audit.specs.Texts.{decoded_texts}
@@ -37,20 +37,9 @@ pub ruleset frame_laws = (decoded_to, none_signed, none_digested)
 
 -- ---- what letters show
 
-pub none_shows : (found : Result Frame BadText) → frame_found found ≡ None → shown_in found ≡ []
-none_shows (Ok it) is = absurd (none-some it (sym is))
-none_shows (Err bad) is = refl
-
-pub ruleset shown_laws = (decoded_to, none_shows)
+pub ruleset shown_laws = (decoded_to, none_shown)
 
 -- ---- what an event brings
-
--- a letter that has a number among the first letters has it among all
-numbered_in_all : (letters more : List Letter) (number : ℕ) (letter : Letter) → numbered letters number ≡ Some letter
-    → numbered (letters ++ more) number ≡ Some letter
-numbered_in_all letters more zero letter is = absurd (none-some letter is)
-numbered_in_all letters more (suc place) letter is =
-    slice_get-append_left letters more place (slice_get_within letters place letter is) ∙ is
 
 letters_parts : (entries : List Entry) (index : ℕ)
     → letters_of (take index entries) ++ letters_of (drop index entries) ≡ letters_of entries
@@ -67,7 +56,7 @@ frame_before : (letters more : List Letter) (number : ℕ) (frame : Option Frame
     → numbered letters number ≡ found → IsFrameOf frame (offered_of found)
 frame_before letters more number frame is None found = tt
 frame_before letters more number frame is (Some letter) found =
-    is ∙ ap (λ (it : Option Letter). frame_offered (offered_of it)) (numbered_in_all letters more number letter found)
+    is ∙ ap (λ (it : Option Letter). frame_offered (offered_of it)) (numbered-append letters more number letter found)
 
 -- the frame that an event offers is that of the bytes, where the entries before it have sent them
 pub frame_upon : (entries : List Entry) (index : ℕ) (event : Event) (frame : Option Frame)

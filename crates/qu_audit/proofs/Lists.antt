@@ -1,12 +1,12 @@
 -- Items of lists that pass a test.
 use Rattle.std.proofs.Common.{◌≡◌, ℕ, suc, Bool, true, false, List, [], ◌∷◌, Some, refl, ap, ◌∙◌, inl, inr}
-use Rattle.std.specs.Prelude.{◌||◌, map, reverse, slice_get, Contains}
+use Rattle.std.specs.Prelude.{◌||◌, map, reverse, slice_get}
 use Rattle.std.specs.List.{list_any, flat_map}
 use Rattle.std.proofs.lemmas.Bool.{false≢true, or_cases}
 use Rattle.std.proofs.lemmas.List.{reverse-append}
 use Rattle.std.proofs.lemmas.List.Concat.{flat_map-cons}
 use Rattle.std.proofs.lemmas.List.Folds.{list_any-append, list_any_at}
-use Rattle.std.proofs.lemmas.Option.{slice_get_within, get_or_from_slice_get, slice_get-get_or}
+use Rattle.std.proofs.lemmas.Option.{slice_get_within, get_or_from_slice_get}
 
 -- an item that passes
 pub record Passing {X : Type 0} (test : X → Bool) (items : List X) : Type 0 where
@@ -57,17 +57,3 @@ any_reversed test (first ∷ later) =
     list_any-append test (reverse later) (first ∷ []) ∙
     ap (λ rest. rest || (test first || false)) (any_reversed test later) ∙
     either_way (list_any test later) (test first)
-
-pub place_of : {X : Type 0} (items : List X) (item : X) → (held : Contains items item)
-    → slice_get items held.0 ≡ Some item
-place_of items item held = slice_get-get_or items held.0 item held.1 ∙ ap Some held.2
-
-pub contained : {X : Type 0} (items : List X) (place : ℕ) (item : X) → slice_get items place ≡ Some item
-    → Contains items item
-contained items place item at =
-    (place, slice_get_within items place item at, get_or_from_slice_get items place item item at)
-
--- a test of an item that a list contains
-pub any_contained : {X : Type 0} (test : X → Bool) (items : List X) (item : X) → Contains items item
-    → test item ≡ true → list_any test items ≡ true
-any_contained test items item held passes = any_at test items held.0 item (place_of items item held) passes

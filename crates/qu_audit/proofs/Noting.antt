@@ -1,5 +1,5 @@
 -- How texts are noted, one after the other.
-use Rattle.std.proofs.Common.{◌≡◌, ℕ, ◌+◌, ◌<◌, Bool, true, false, cond, List, [], ◌∷◌, ◌++◌, length, take, get_or, Option, None, Some, refl, sym, ap, subst, ◌∙◌, inl, inr, arith}
+use Rattle.std.proofs.Common.{◌≡◌, ℕ, ◌+◌, ◌<◌, Bool, true, false, cond, List, [], ◌∷◌, ◌++◌, length, take, get_or, Option, None, Some, refl, sym, ap, subst, ◌∙◌, inl, inr}
 use Rattle.std.specs.Prelude.{◌⊎◌, is_some, IsSome, Contains}
 use Rattle.std.proofs.lemmas.Bool.{false≢true, cases_Bool}
 use Rattle.std.proofs.lemmas.List.{take_more}
@@ -7,24 +7,17 @@ use Rattle.std.proofs.lemmas.List.Elements.{Contains-append_left, Contains-appen
 use Rattle.std.proofs.lemmas.Option.{same_Some}
 use Rattle.qu_base.specs.declared.party.Digest.{Digest}
 use Rattle.qu_stamp.specs.Stamp.{same_digest}
+use Rattle.qu_stamp.proofs.Order.{decides_digest}
 use Rattle.qu_claims.specs.Digested.{Text}
 use Rattle.qu_runs.proofs.Small.{only_one}
 use Rattle.qu_audit.specs.declared.digests.Seen.{Seen}
 use Rattle.qu_audit.specs.Digesting.{digest_of_text}
 use Rattle.qu_audit.specs.Digests.{Notes}
-use Rattle.qu_audit.proofs.Equalities.{decides_digest}
 
 abbrev Look : Type 0
 Look = Digest → Option Seen
 
 -- ---- no text, and several
-
-pub notes_none : (seen : Look) (event : ℕ) → Notes seen seen event []
-notes_none seen event = record {
-  kept = λ digest it found. found;
-  noted = λ text held. absurd (omega (arith, held.1));
-  told = λ digest it found. inl found;
-}
 
 is_some_from : (new : Look) (digest : Digest) (it : Seen) → new digest ≡ Some it → IsSome (new digest)
 is_some_from new digest it found = ap is_some found
@@ -68,15 +61,6 @@ notes_more old mid new event texts index text within at first second =
     (notes_both old mid new event (take index texts) (text ∷ []) first second)
 
 -- ---- one text
-
--- whose digest was seen
-pub notes_seen : (seen : Look) (event : ℕ) (text : Text) → is_some (seen (digest_of_text text)) ≡ true
-    → Notes seen seen event (text ∷ [])
-notes_seen seen event text is = record {
-  kept = λ digest it found. found;
-  noted = λ other held. subst (λ (it : Text). IsSome (seen (digest_of_text it))) (only_one text other held) is;
-  told = λ digest it found. inl found;
-}
 
 -- whose digest was not seen
 module _ (old new : Look) (event : ℕ) (text copied : Text) (digest : Digest) (is : digest ≡ digest_of_text text)

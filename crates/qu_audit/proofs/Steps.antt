@@ -23,7 +23,7 @@ use Rattle.qu_claims.specs.Digested.{Text, texts_at, digested, NoCollision}
 use Rattle.qu_claims.specs.Premises.{AreUnforged, IsUnforgedAt, MeetsPremises}
 use Rattle.qu_claims.specs.Times.{world_after}
 use Rattle.qu_runs.proofs.Events.Recording.{entries_after}
-use Rattle.qu_runs.proofs.Worlds.WorldGrowth.{world_after-none, world_after-grows}
+use Rattle.qu_runs.proofs.Digests.Plain.{setup_after}
 use Rattle.qu_audit.specs.declared.auditing.Past.{Past}
 use Rattle.qu_audit.specs.Answer.{UnforgedAt, UnforgedBefore, texts_of_entry, texts_by, DoCollide, NoneCollideBefore, IsFirstForged, IsFirstCollision}
 use Rattle.qu_audit.specs.Digesting.{same_text}
@@ -48,11 +48,6 @@ given_forged : (world : WorldState) (given : Option (Party × List ℕ)) → is_
 given_forged world None forged unforged = false≢true forged
 given_forged world (Some (to, text)) forged unforged = forged_text world to text forged unforged
 
-world_setup : (trace : Trace) (index : ℕ) → (world_after trace index).setup ≡ trace.setup
-world_setup trace index =
-    (world_after-grows trace 0 index (omega arith)).setup ∙ ap (λ (world : WorldState). world.setup)
-    (world_after-none trace)
-
 -- the test in the world before the event, and upon the entries before it
 test_is : (trace : Trace) → IsRun trace → (index : ℕ) → index ≤ length trace.entries → (event : Event)
     → is_forged (world_after trace index).setup (world_after trace index).entries
@@ -60,7 +55,7 @@ test_is : (trace : Trace) → IsRun trace → (index : ℕ) → index ≤ length
     (shown_in_all (take index trace.entries)) event
 test_is trace is index within event =
     ap (λ (setup : Setup). is_forged setup (world_after trace index).entries
-    (shown_in_all (world_after trace index).entries) event) (world_setup trace index) ∙
+    (shown_in_all (world_after trace index).entries) event) (setup_after trace index) ∙
     ap (λ (entries : List Entry). is_forged trace.setup entries (shown_in_all entries) event)
     (entries_after trace is index within)
 

@@ -2,6 +2,7 @@
 use Rattle.std.proofs.Common.{◌≡◌, ℕ, zero, suc, ◌+◌, ◌<◌, ◌≤◌, Option, None, Some, refl, ap, subst, ◌∙◌, inl, inr, arith}
 use Rattle.std.specs.Prelude.{slice_get, Contains}
 use Rattle.std.proofs.lemmas.Bool.{cases_lt}
+use Rattle.qu_base.proofs.Items.{contains_at}
 use Rattle.qu_trace.specs.declared.trace.Entry.{Entry}
 use Rattle.qu_trace.specs.declared.trace.Trace.{Trace}
 use Rattle.qu_claims.specs.Digested.{Text, texts_at, digested}
@@ -10,7 +11,6 @@ use Rattle.qu_runs.proofs.Small.{contains_mapped}
 use Rattle.qu_trace.specs.declared.premises.Premises.{Premises}
 use Rattle.qu_trace.specs.declared.premises.Premises.TheVariants.{Hold, Forged, Collide}
 use Rattle.qu_audit.specs.Answer.{texts_of_entry, texts_by, DoCollide, IsFirstForged, IsFirstCollision, IsAnswer}
-use Rattle.qu_audit.proofs.Lists.{contained}
 
 -- ---- what the premises say of one event
 
@@ -25,7 +25,7 @@ unfolding digested
 text_in trace zero text held = absurd (omega (arith, held.1))
 text_in trace (suc index) text held =
     let it = text_of trace (slice_get trace.entries index) text held in
-    contains_mapped (texts_at trace) trace.entries it.0 text (contained trace.entries index it.0 it.1) it.2
+    contains_mapped (texts_at trace) trace.entries it.0 text (contains_at trace.entries index it.0 it.1) it.2
 
 no_forgery : (trace : Trace) (event : ℕ) → MeetsPremises trace → ¬ (IsFirstForged trace event)
 no_forgery trace event meets it =

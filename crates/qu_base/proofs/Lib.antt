@@ -5,3 +5,6 @@ pub mod Reading
 pub mod Lists
 pub mod Writing
 pub mod TextForms
+pub mod EachItem
+pub mod Items
+pub mod Numbered

@@ -74,6 +74,18 @@ count-not (suc n) test =
     let here : bit (test n) + bit (not (test n)) ≡ 1 = bit-not (test n) in
     omega arith
 
+pub count-further : (test : ℕ → Bool) (least n : ℕ) → least ≤ n → count least test ≤ count n test
+unfolding count
+count-further test zero zero order = omega arith
+count-further test (suc least) zero order = absurd (omega arith)
+count-further test least (suc n) order =
+    elim (cases_eq least (suc n)) [
+      | inl same ↦ rw same (omega arith)
+      | inr other ↦
+          let before : count least test ≤ count n test = count-further test least n (omega arith) in
+          omega (arith, before)
+    ]
+
 pub count-le : (n : ℕ) (test : ℕ → Bool) → count n test ≤ n
 count-le n test = omega (arith, count-not n test)
 
@@ -219,24 +231,3 @@ found_at test (item ∷ items) (suc index) held = found_later test item items in
 pub test_at-here : {X : Type 0} (test : X → Bool) (items : List X) (index : ℕ) (item : X)
     → slice_get items index ≡ Some item → test_at test items index ≡ test item
 test_at-here test items index item is_at = ap (passes test) is_at
-
-pub test_at-past : {X : Type 0} (test : X → Bool) (items : List X) (index : ℕ) → length items ≤ index
-    → test_at test items index ≡ false
-test_at-past test [] index past = refl
-test_at-past test (item ∷ items) zero past = absurd (omega arith)
-test_at-past test (item ∷ items) (suc index) past = test_at-past test items index (omega arith)
-
--- the same count for a bound above the list's length
-pub count-test_at_up_to : {X : Type 0} (test : X → Bool) (items : List X) (n : ℕ) → length items ≤ n
-    → count n (test_at test items) ≡ count_by test items
-unfolding count
-count-test_at_up_to test items zero long =
-    let none : length items ≡ 0 = omega arith in
-    ap (λ n. count n (test_at test items)) (sym none) ∙ count-test_at test items
-count-test_at_up_to test items (suc n) long =
-    elim (cases_eq (length items) (suc n)) [
-      | inl same ↦ ap (λ bound. count bound (test_at test items)) (sym same) ∙ count-test_at test items
-      | inr other ↦
-          count-here n (test_at test items) (test_at-past test items n (omega arith))
-          ∙ count-test_at_up_to test items n (omega arith)
-    ]

@@ -3,7 +3,7 @@ use Rattle.std.proofs.Common.{◌≡◌, ◌↔◌, ◌+◌, ◌≤◌, ℕ, Boo
 use Rattle.std.specs.Prelude.{◌==◌}
 use Rattle.std.specs.List.{AllByRecursion, list_all}
 use Rattle.std.specs.Option.{option_map}
-use Rattle.std.proofs.lemmas.Bool.{false≢true, and_parts, and_from, or_parts, leb-true, eq-eqb}
+use Rattle.std.proofs.lemmas.Bool.{false≢true, and_parts, and_from, or_parts, eq-eqb}
 use Rattle.std.proofs.lemmas.Option.{none-some, same_Some}
 use Rattle.qu_base.specs.Bounds.{quorum}
 use Rattle.qu_base.specs.declared.party.ObjectId.{ObjectId}
@@ -12,7 +12,7 @@ use Rattle.qu_stamp.specs.declared.candidate.Candidate.{Candidate}
 use Rattle.qu_stamp.specs.Stamp.{same_stamp}
 use Rattle.qu_stamp.specs.Group.{same_group, is_group_size, is_group, is_member_from, are_members_from, listed_time}
 use Rattle.qu_stamp.proofs.Order.{same_stamp-self, equal_by_same_stamp}
-use Rattle.qu_stamp.proofs.Groups.{decides_group}
+use Rattle.qu_stamp.proofs.Groups.{decides_group, member_from}
 use Rattle.qu_history.specs.History.{ObjectHistory}
 use Rattle.qu_history.specs.declared.sets.SetOf.{SetOf}
 use Rattle.qu_history.specs.Sets.{histories, entries_of, candidates_of, greatest, latest_of, method_at}
@@ -47,16 +47,13 @@ module _ (sets : List SetOf) where
   abbrev AreFrom : ℕ → List (ObjectId × ℕ) → Type 0
   AreFrom least group = AllByRecursion (λ member. is_in_sets sets member.0 ≡ false → least ≤ (member.0).0) group
 
-  from_part : (least : ℕ) (member : ObjectId × ℕ) → is_member_from least member ≡ true → least ≤ (member.0).0
-  from_part least member is = leb-true least (member.0).0 (and_parts _ _ is).0
-
   all_from : (low least : ℕ) (group : List (ObjectId × ℕ)) → low ≤ least → are_members_from least group ≡ true
       → AreFrom low group
   unfolding are_members_from
   all_from low least [] below rise = tt
   all_from low least (member ∷ later) below rise =
       let parts = and_parts (is_member_from least member) _ rise in
-      let first : least ≤ (member.0).0 = from_part least member parts.0 in (
+      let first : least ≤ (member.0).0 = member_from least member parts.0 in (
         λ absent. omega (arith, below, first),
         all_from low ((member.0).0 + 1) later (omega (arith, below, first))
             parts.1,
@@ -99,7 +96,7 @@ module _ (sets : List SetOf) where
   first_is_lowest least [] object rise is = absurd (none-some object is)
   first_is_lowest least (member ∷ later) object rise is =
       let parts = and_parts (is_member_from least member) _ rise in
-      first_by least member later object (is_in_sets sets member.0) refl (from_part least member parts.0) parts.1 is
+      first_by least member later object (is_in_sets sets member.0) refl (member_from least member parts.0) parts.1 is
       (first_is_lowest ((member.0).0 + 1) later object parts.1)
 
   lowest_absent : (group : List (ObjectId × ℕ)) (object : ObjectId) → is_group group ≡ true
@@ -116,13 +113,13 @@ module _ (sets : List SetOf) where
   shown_by member later true shown none rest = (shown, rest none)
   shown_by member later false absent none rest = absurd (none-some member.0 (sym none))
 
-  all_shown : (group : List (ObjectId × ℕ)) → first_absent sets group ≡ None → AllShown sets group
+  pub all_shown : (group : List (ObjectId × ℕ)) → first_absent sets group ≡ None → AllShown sets group
   all_shown [] none = tt
   all_shown (member ∷ later) none =
       shown_by member later (is_in_sets sets member.0) refl none (all_shown later)
 
 -- what is absent has no entries, and is not of class COPY
-none_shown : (sets : List SetOf) (object : ObjectId) → is_in_sets sets object ≡ false → entries_of object sets ≡ []
+pub none_shown : (sets : List SetOf) (object : ObjectId) → is_in_sets sets object ≡ false → entries_of object sets ≡ []
 unfolding entries_of
 none_shown [] object absent = refl
 none_shown (set ∷ later) object absent =
@@ -247,18 +244,6 @@ module _ (bounds : ℕ) (sets : List SetOf) where
   copy_stays (Barrier prior) is = is
   copy_stays (Needs object) is = is
 
-  inline_stays : (class : Class) (candidate : Candidate) → with_members bounds sets class ≡ InlineMethod candidate
-      → class ≡ InlineMethod candidate
-  unfolding with_members
-  inline_stays (Method base) candidate is = is
-  inline_stays (InlineMethod base) candidate is =
-      inline_by (λ it. it ≡ InlineMethod candidate → InlineMethod base ≡ InlineMethod candidate) base
-      (λ object first it. absurd cc) (λ none all it. it) (λ none some it. absurd cc) is
-  inline_stays Copy candidate is = is
-  inline_stays (InlineBarrier barrier) candidate is = is
-  inline_stays (Barrier prior) candidate is = is
-  inline_stays (Needs object) candidate is = is
-
   module _ (object : ObjectId) where
     abbrev entries : List ObjectHistory
     entries = entries_of object sets
@@ -284,11 +269,6 @@ module _ (bounds : ℕ) (sets : List SetOf) where
         by_test false absent =
             absurd (no_copy bounds
             (sym (ap (class_of bounds) (none_shown sets object absent)) ∙ copy_is_own is))
-
-    pub inline_is_own : (candidate : Candidate) → class_in bounds sets object ≡ InlineMethod candidate
-        → class_of bounds entries ≡ InlineMethod candidate
-    unfolding class_in
-    inline_is_own candidate is = inline_stays (class_of bounds entries) candidate is
 
     tells_by : (class : Class) → IsClassOf bounds entries class → HasGroup class
         → IsClassIn bounds sets object (with_members bounds sets class)

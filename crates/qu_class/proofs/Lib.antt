@@ -1,5 +1,6 @@
 pub mod OfKind
 pub mod ClassRows
-pub mod OneClass
 pub mod GroupRule
 pub mod BaseOfClass
+pub mod EntriesFit
+pub mod Tested

@@ -310,26 +310,6 @@ module _ (state : ClientState) (Q : List Kept → Type 0) (P : Stepped → Type 
   pub tick_cases : Q state.kept → P (client_tick state)
   tick_cases held = ticked_cases state.work held refl
 
--- an operation that ends in a tick is given up
-abbrev pub OnlyGivesUp : Stepped → Type 0
-OnlyGivesUp stepped = IfSome stepped.ended (λ end. end ≡ outcome.GaveUp)
-
-phase_gives_up : (state : ClientState) (work : Work) (phase : Phase) → OnlyGivesUp (ticked_in state work phase)
-phase_gives_up state work (Resting ticks) =
-    cond_by OnlyGivesUp (leb ticks 1) (next_round state work)
-    (stays (record state { work = Some (record work { phase = Resting (ticks - 1) }) }))
-    (next_cases state work OnlyGivesUp (λ _. refl) (λ _ _ _. tt)) tt
-phase_gives_up state work (Asking false) = tt
-phase_gives_up state work (Asking true) =
-    ended_cases state work OnlyGivesUp (λ _ _ _. refl) (λ _ _ _ _ _. tt) (λ _ _ _ _ _. tt)
-
-ticked_gives_up : (state : ClientState) (found : Option Work) → OnlyGivesUp (ticked state found)
-ticked_gives_up state None = tt
-ticked_gives_up state (Some work) = phase_gives_up state work work.phase
-
-pub tick_gives_up : (state : ClientState) → OnlyGivesUp (client_tick state)
-tick_gives_up state = ticked_gives_up state state.work
-
 -- what an invocation makes of it: a round begins
 pub invoke_cases : (state : ClientState) (op : Op) (P : Stepped → Type 0)
     → ((work : Work) → IsFirst state (unmarked state.kept) op work

@@ -143,11 +143,6 @@ grown_more accepted last grown history histories apart so_far found place =
     ∙ put_history (last.object).0 last.candidate before history here
     ∙ sym (candidates-snoc accepted last histories)
 
-pub all_push : {X : Type 0} (P : X → Type 0) (items : List X) (item : X) → AllByRecursion P items → P item
-    → AllByRecursion P (items ++ item ∷ [])
-all_push P [] item all last = (last, tt)
-all_push P (first ∷ later) item all last = (all.0, all_push P later item all.1 last)
-
 -- ---- which is accepted
 
 -- the one at this place may be accepted, and those before it are of other objects

@@ -1,8 +1,8 @@
 -- The sets that a replica culls fit, the entries that it names rise, and the HMACs that it makes fit.
-use Rattle.std.proofs.Common.{◌≡◌, ◌⊎◌, ◌-◌, ℕ, ◌+◌, ◌*◌, ◌<◌, ◌≤◌, Bool, true, false, not, ◌||◌, cond, List, [], ◌∷◌, ◌++◌, length, Option, None, Some, inl, inr, refl, sym, subst, arith}
+use Rattle.std.proofs.Common.{◌≡◌, ◌⊎◌, ◌-◌, ℕ, ◌+◌, ◌*◌, ◌<◌, ◌≤◌, Bool, true, not, cond, List, [], ◌∷◌, ◌++◌, length, Option, None, Some, inl, inr, refl, sym, subst, arith}
 use Rattle.std.specs.Prelude.{IsTrue, nat_lt, map, filter}
 use Rattle.std.specs.List.{flat_map, range_with_len}
-use Rattle.std.proofs.lemmas.Bool.{cases_Bool, le-leb, lt-ltb, leb-true, eq-eqb}
+use Rattle.std.proofs.lemmas.Bool.{cases_Bool, lt-ltb, leb-true, eq-eqb, or_right}
 use Rattle.std.proofs.lemmas.List.{length-append, length-map}
 use Rattle.std.proofs.lemmas.List.FromFn.{length-map-range_with_len}
 use Rattle.qu_base.specs.declared.limits.TheConstants.{REPLICA_IDS, OBJECT_IDS}
@@ -13,12 +13,14 @@ use Rattle.qu_base.specs.declared.party.ReplicaId.{ReplicaId}
 use Rattle.qu_base.specs.Bounds.{replicas, is_replica_count}
 use Rattle.qu_base.specs.Format.{FitsFrom, bytes}
 use Rattle.qu_base.proofs.ThresholdFacts.{count_is_few}
+use Rattle.qu_base.proofs.Items.{few_left}
 use Rattle.qu_seal.specs.Keys.{Ring, seal_of, authenticator_of}
 use Rattle.qu_seal.proofs.Lengths.{length-hmac}
 use Rattle.qu_history.specs.declared.sealed.Sealed.{Sealed}
 use Rattle.qu_history.specs.declared.sets.SetOf.{SetOf}
 use Rattle.qu_history.specs.Culling.{is_right, culled_set, culled, left_of, left_out}
-use Rattle.qu_history.specs.Formats.{macs_form, entry_form, sealed_entry_form, next_entry, entries_form, set_form, sets_form}
+use Rattle.qu_history.specs.Formats.{macs_form, entry_form, sealed_entry_form, entries_form, set_form, sets_form}
+use Rattle.qu_class.proofs.EntriesFit.{EntriesFit, not_below, entries_left}
 use Rattle.qu_frames.specs.Formats.{is_after_pair, pair_after, culled_form}
 
 -- ---- HMACs
@@ -46,73 +48,21 @@ module _ (ring : Ring) (me : ReplicaId) (text : Digest) where
 
 -- ---- sets
 
--- an entry fits from a lower number on too
-entry_lower : (object : ObjectId) (least lower : ℕ) (sealed : Sealed) → lower ≤ least
-    → (sealed_entry_form object least).Fits sealed → (sealed_entry_form object lower).Fits sealed
-unfolding sealed_entry_form entry_form
-entry_lower object least lower sealed order fits =
-    let above : least ≤ ((sealed.history).replica).0 = leb-true _ _ (fits.0.1.0.1) in
-    ((fits.0.0, ((fits.0.1.0.0, le-leb lower ((sealed.history).replica).0 (omega arith)), fits.0.1.1)), fits.1)
-
-not_below : (object : ObjectId) (least : ℕ) (sealed : Sealed) → (sealed_entry_form object least).Fits sealed
-    → least ≤ ((sealed.history).replica).0
-unfolding sealed_entry_form entry_form
-not_below object least sealed fits = leb-true _ _ (fits.0.1.0.1)
-
 replica_few : (object : ObjectId) (least : ℕ) (sealed : Sealed) → (sealed_entry_form object least).Fits sealed
     → ((sealed.history).replica).0 ≤ REPLICA_IDS - 1
 unfolding sealed_entry_form entry_form
 replica_few object least sealed fits = (fits.0.1.0.0).1
 
--- the entries of an object, by rising replicas from this number on
-abbrev EntriesFit : ObjectId → ℕ → List Sealed → Type 0
-EntriesFit object least entries = FitsFrom (sealed_entry_form object) next_entry least entries
-
-entries_lower : (object : ObjectId) (least lower : ℕ) (entries : List Sealed) → lower ≤ least
-    → EntriesFit object least entries → EntriesFit object lower entries
-entries_lower object least lower [] order fits = tt
-entries_lower object least lower (sealed ∷ later) order fits =
-    (entry_lower object least lower sealed order fits.0, fits.1)
-
-entries_kept : (test : Sealed → Bool) (object : ObjectId) (least : ℕ) (entries : List Sealed)
-    → EntriesFit object least entries → EntriesFit object least (filter test entries)
-entries_kept test object least [] fits = tt
-entries_kept test object least (sealed ∷ later) fits =
-    let rest : EntriesFit object (next_entry sealed) (filter test later) =
-    entries_kept test object (next_entry sealed) later fits.1 in
-    elim (cases_Bool (test sealed)) [
-      | inl stays ↦
-          subst (λ (it : Bool). EntriesFit object least (cond it (sealed ∷ filter test later) (filter test later)))
-          (sym stays) (fits.0, rest)
-      | inr leaves ↦
-          let order : least ≤ ((sealed.history).replica).0 = not_below object least sealed fits.0 in
-          subst (λ (it : Bool). EntriesFit object least (cond it (sealed ∷ filter test later) (filter test later)))
-          (sym leaves) (entries_lower object (next_entry sealed) least (filter test later) (omega arith) rest)
-    ]
-
-few_kept : {X : Type 0} (test : X → Bool) (items : List X) → length (filter test items) ≤ length items
-few_kept test [] = omega arith
-few_kept test (item ∷ later) =
-    let rest = few_kept test later in
-    elim (cases_Bool (test item)) [
-      | inl stays ↦
-          subst (λ (it : Bool). length (cond it (item ∷ filter test later) (filter test later)) ≤ length (item ∷ later))
-          (sym stays) (omega (arith, rest))
-      | inr leaves ↦
-          subst (λ (it : Bool). length (cond it (item ∷ filter test later) (filter test later)) ≤ length (item ∷ later))
-          (sym leaves) (omega (arith, rest))
-    ]
-
 module _ (ring : Ring) (me : ReplicaId) where
   set_culled : (least : ℕ) (set : SetOf) → (set_form least).Fits set → (set_form least).Fits (culled_set ring me set)
   unfolding set_form entries_form
   set_culled least set fits =
-      let kept = few_kept (is_right ring me) set.entries in
+      let kept = few_left (is_right ring me) set.entries in
       let few : length set.entries ≤ REPLICA_IDS = ((fits.1).0).1 in (
         fits.0,
         (
           (omega arith, omega (arith, kept, few)),
-          (refl, entries_kept (is_right ring me) set.object 0 set.entries (((fits.1).1).1)),
+          (refl, entries_left (is_right ring me) set.object 0 set.entries (((fits.1).1).1)),
         ),
       )
 
@@ -148,11 +98,7 @@ module _ (ring : Ring) (me : ReplicaId) where
   own_precedes object replica next other (inl above) = rw (lt-ltb object.0 next.0 above) refl
   own_precedes object replica next other (inr here) =
       let past : replica.0 < other.0 = omega (arith, here.1) in
-      or_last (nat_lt object.0 next.0) _ (rw (eq-eqb object.0 next.0 here.0) (lt-ltb replica.0 other.0 past))
-    where
-      or_last : (left right : Bool) → right ≡ true → (left || right) ≡ true
-      or_last true right is = refl
-      or_last false right is = is
+      or_right (nat_lt object.0 next.0) _ (rw (eq-eqb object.0 next.0 here.0) (lt-ltb replica.0 other.0 past))
 
   abbrev pair_of : ObjectId → Sealed → Pair
   pair_of object sealed = (object, (sealed.history).replica)
@@ -220,7 +166,7 @@ module _ (ring : Ring) (me : ReplicaId) where
   few_pairs least [] fits = omega arith
   few_pairs least (set ∷ later) fits =
       let few : length set.entries ≤ REPLICA_IDS = (((fits.0).1).0).1 in
-      let kept = few_kept (λ sealed. not (is_right ring me sealed)) set.entries in
+      let kept = few_left (λ sealed. not (is_right ring me sealed)) set.entries in
       let same = length-map (wrong set.entries) (pair_of set.object) in
       let rest = few_pairs ((set.object).0 + 1) later fits.1 in
       let sum = length-append (left_of ring me set) (flat_map (left_of ring me) later) in

@@ -1,13 +1,14 @@
 -- The group of the candidates that an act makes fits each of them.
-use Rattle.std.proofs.Common.{◌≡◌, ℕ, ◌+◌, ◌==◌, ◌<◌, ◌≤◌, Bool, true, false, ◌||◌, List, [], ◌∷◌, length, map, Some, refl, sym, ap, subst, ◌∙◌, arith}
+use Rattle.std.proofs.Common.{◌≡◌, ℕ, ◌+◌, ◌==◌, ◌<◌, ◌≤◌, Bool, true, false, List, [], ◌∷◌, length, map, Some, refl, sym, ap, subst, ◌∙◌, arith}
 use Rattle.std.specs.Prelude.{nat_le, nat_lt}
 use Rattle.std.specs.List.{AllByRecursion}
-use Rattle.std.proofs.lemmas.Bool.{and_from, and_parts, leb-true, ltb-true, eq-eqb}
+use Rattle.std.proofs.lemmas.Bool.{and_from, and_parts, leb-true, ltb-true, eq-eqb, or_right}
 use Rattle.std.proofs.lemmas.Bool.Decides.{nat_tests}
 use Rattle.std.proofs.lemmas.List.{length-map}
 use Rattle.qu_base.specs.declared.limits.TheConstants.{OBJECT_IDS}
 use Rattle.qu_base.specs.declared.party.ObjectId.{ObjectId}
 use Rattle.qu_base.specs.Format.{FitsFrom}
+use Rattle.qu_base.proofs.EachItem.{each_weaker}
 use Rattle.qu_stamp.specs.declared.limits.TheConstants.{LAST_TIME}
 use Rattle.qu_stamp.specs.declared.stamp.Stamp.{Stamp}
 use Rattle.qu_stamp.specs.Formats.{member_form, after_member, may_have_act, may_be_size, is_time, members_form, group_form}
@@ -20,14 +21,9 @@ use Rattle.qu_rows.specs.Rows.{Asked, objects_of, shown_of, fresh_stamp, unless_
 use Rattle.qu_rows.proofs.FreshGroups.{HasTime, group_whole, each_listed}
 use Rattle.qu_kept.proofs.RisingObjects.{RiseFrom}
 use Rattle.qu_fitting.proofs.FitStamps.{later_time}
-use Rattle.qu_fitting.proofs.PassedRows.{each_weaker}
 use Rattle.qu_fitting.proofs.RisingParts.{PartsRise}
 
 -- ---- members
-
-later_true : (first later : Bool) → later ≡ true → (first || later) ≡ true
-later_true true later is = refl
-later_true false later is = is
 
 acted : (time : ℕ) (barrier : Bool) → (time == 0) ≡ false → barrier ≡ false → may_have_act time barrier ≡ true
 acted time barrier above plain = rw (above, plain) refl
@@ -61,10 +57,10 @@ group_fits object stamp group above plain is listed =
     let both = and_parts (is_group_size (length group)) (are_members_from 0 group) is in
     let sized : may_be_size stamp (length group) ≡ true =
     and_from _ _ both.0
-    (later_true (length group == 0) (may_have_act stamp.time stamp.barrier)
+    (or_right (length group == 0) (may_have_act stamp.time stamp.barrier)
     (acted stamp.time stamp.barrier above plain)) in (
       (((omega arith, few_members (length group) both.0), sized), (refl, from_members 0 group both.1)),
-      later_true (length group == 0) (is_time stamp.time (listed_time object group))
+      or_right (length group == 0) (is_time stamp.time (listed_time object group))
           (ap (is_time stamp.time) listed ∙ eq-eqb stamp.time stamp.time refl),
     )
 

@@ -6,6 +6,7 @@ use Rattle.std.proofs.lemmas.Bool.{and_parts, ltb-true}
 use Rattle.std.proofs.lemmas.Option.{none-some, same_Some}
 use Rattle.qu_base.specs.declared.limits.TheConstants.{OBJECT_IDS}
 use Rattle.qu_base.specs.declared.party.ObjectId.{ObjectId}
+use Rattle.qu_base.proofs.EachItem.{each_kept}
 use Rattle.qu_stamp.specs.declared.stamp.Stamp.{Stamp}
 use Rattle.qu_stamp.specs.Group.{is_group_size, is_member_from, are_members_from, is_group}
 use Rattle.qu_stamp.specs.Formats.{stamp_form, plain_stamp_form, group_form}
@@ -43,7 +44,7 @@ use Rattle.qu_fitting.specs.Fits.{VersionFits, StateFits}
 use Rattle.qu_fitting.proofs.FitStamps.{CandidateFits, shown_fit, plain_fits}
 use Rattle.qu_fitting.proofs.FitVerdicts.{thin_fits, needs_fits, stale_fits, time_fits, full_fits, current_fits, sound_fits, mended_fits}
 use Rattle.qu_kept.proofs.RisingObjects.{IsNumbered}
-use Rattle.qu_fitting.proofs.FitOperations.{found_each, each_passing, base_key_fits}
+use Rattle.qu_fitting.proofs.FitOperations.{found_each, base_key_fits}
 use Rattle.qu_fitting.proofs.FitRepairs.{CourseFits, course_fits, made_fits, made_stamp_fits, stored_version_fits, RemedyFits, GroupFits}
 use Rattle.qu_fitting.proofs.FitCopies.{MadeFits, alone_made_fits, made_groups_fit}
 use Rattle.qu_fitting.proofs.FitAccepted.{version_fits, AcceptFits, AcceptAllFit}
@@ -199,7 +200,7 @@ module _ (state : ReplicaState) (asked : Asked) (fits : StateFits state) (asks :
     evidence : Gives (row_evidence state asked object)
     unfolding row_evidence
     evidence = waits-fit (missing_of state (evidence_for state asked object))
-        (each_passing KeyFits _ (evidence_for state asked object)
+        (each_kept KeyFits _ (evidence_for state asked object)
         (evidence_fits (is_copy (class_in state.keys.bounds asked.sets object))))
 
     abbrev mend : Mend

@@ -1,11 +1,12 @@
 -- What a replica decides upon an act or a query that fits, fits: its verdict, and the candidates that it accepts.
 use Rattle.std.proofs.Common.{◌≡◌, ℕ, ◌+◌, ◌<◌, ◌≤◌, Bool, true, false, cond, List, [], ◌∷◌, ◌∙◌, length, map, Option, None, Some, refl, sym, ap, subst, arith}
 use Rattle.std.specs.Prelude.{◌==◌, find, option_map, option_and_then}
-use Rattle.std.specs.List.{AllByRecursion, list_all, filter_map, cons_option, filter}
-use Rattle.std.proofs.lemmas.Bool.{and_parts, false≢true, cond_both}
+use Rattle.std.specs.List.{AllByRecursion, list_all, filter_map, cons_option}
+use Rattle.std.proofs.lemmas.Bool.{and_parts, false≢true}
 use Rattle.std.proofs.lemmas.Option.{none-some, same_Some}
 use Rattle.std.proofs.lemmas.List.{length-map}
 use Rattle.qu_base.specs.declared.party.ObjectId.{ObjectId}
+use Rattle.qu_base.proofs.EachItem.{each_weaker, each_kept}
 use Rattle.qu_stamp.specs.declared.stamp.Stamp.{Stamp}
 use Rattle.qu_stamp.specs.declared.limits.TheConstants.{LAST_TIME}
 use Rattle.qu_stamp.specs.declared.candidate.Candidate.{Candidate}
@@ -51,7 +52,7 @@ use Rattle.qu_fitting.proofs.FitStamps.{CandidateFits, stamp_fits, later_time, n
 use Rattle.qu_fitting.proofs.FitStandings.{StandingFits, standing_in-fits}
 use Rattle.qu_fitting.proofs.FitVerdicts.{time_fits, full_fits, method_fits, current_fits, spent_fits, stamps_fit, done_fits, told_fits, already_fits, performed_fits, values_fitting, read_fits}
 use Rattle.qu_fitting.proofs.FitVersions.{act_sized}
-use Rattle.qu_fitting.proofs.PassedRows.{each_weaker, of_seen, base_of, before_of, passed_method, passed_version, passed_time}
+use Rattle.qu_fitting.proofs.PassedRows.{of_seen, base_of, before_of, passed_method, passed_version, passed_time}
 use Rattle.qu_kept.proofs.RisingObjects.{IsNumbered, all_numbered, all_distinct}
 use Rattle.qu_fitting.proofs.RisingParts.{PartsRise}
 
@@ -69,13 +70,6 @@ module _ {X Y : Type 0} (Q : X → Type 0) (P : Y → Type 0) (of : X → Option
   found_each [] all = tt
   found_each (item ∷ later) all =
       one_found (of item) (filter_map of later) (has item all.0) (found_each later all.1)
-
-pub each_passing : {X : Type 0} (P : X → Type 0) (test : X → Bool) (items : List X) → AllByRecursion P items
-    → AllByRecursion P (filter test items)
-each_passing P test [] all = tt
-each_passing P test (item ∷ later) all =
-    cond_both (test item) _ _ (AllByRecursion P) (λ _. (all.0, each_passing P test later all.1))
-    (λ _. each_passing P test later all.1)
 
 each_true : {X : Type 0} (test : X → Bool) (items : List X) → list_all test items ≡ true
     → AllByRecursion (λ item. test item ≡ true) items
@@ -280,7 +274,7 @@ module _ (state : ReplicaState) (asked : Asked) (fits : StateFits state) (asks :
 
     lacking : Gives (row_version state seen)
     unfolding row_version
-    lacking = waiting _ (each_passing KeyFits _ (base_keys seen) (found_seen KeyFits base_key
+    lacking = waiting _ (each_kept KeyFits _ (base_keys seen) (found_seen KeyFits base_key
         (λ object within key given. key_of object within (method_base state asked object) refl key given))) _
 
     base_all : AllByRecursion VersionFits (base_versions state seen)

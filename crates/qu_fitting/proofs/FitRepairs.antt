@@ -12,6 +12,7 @@ use Rattle.qu_stamp.specs.declared.candidate.Candidate.{Candidate}
 use Rattle.qu_stamp.specs.Stamp.{is_below}
 use Rattle.qu_stamp.specs.Candidate.{opening}
 use Rattle.qu_base.specs.declared.party.ObjectId.{ObjectId}
+use Rattle.qu_base.proofs.Numbered.{tested_object}
 use Rattle.qu_stamp.specs.Formats.{stamp_form, member_form, after_member, members_form, group_form}
 use Rattle.qu_stamp.proofs.Order.{is_below_by_time}
 use Rattle.qu_history.specs.History.{ObjectHistory, holds}
@@ -45,7 +46,7 @@ use Rattle.qu_kept.specs.Remedy.{copied_at, copy_of, copied_member}
 use Rattle.qu_mends.specs.Remedy.{shown_member, copy_course, course_by, course_of, fresh_repair}
 use Rattle.qu_mends.specs.Causes.{MakesCandidate, AddsVersion}
 use Rattle.qu_fitting.specs.Fits.{VersionFits}
-use Rattle.qu_fitting.proofs.FitStamps.{CandidateFits, CandidatesFit, object_is, opening_candidate_fits, object_candidate_shown, barrier_candidate_shown, actless_stamp_fits, prior_fits, not_opening, later_time}
+use Rattle.qu_fitting.proofs.FitStamps.{CandidateFits, CandidatesFit, opening_candidate_fits, object_candidate_shown, barrier_candidate_shown, actless_stamp_fits, prior_fits, not_opening, later_time}
 
 -- ---- upon what a barrier or a copy rests
 
@@ -268,7 +269,7 @@ module _ (bounds : ℕ) (sets : List SetOf) (link : Linking)
                   (cond test (Some part) (find (λ (it : ObjectId × Candidate). (it.0).0 == target.0) later))),
             )
         by true here rest =
-            subst (λ (it : ObjectId). MendFits (it, Fresh false part.1.stamp)) (object_is part.0 target here)
+            subst (λ (it : ObjectId). MendFits (it, Fresh false part.1.stamp)) (tested_object part.0 target here)
             (part_fits part copied.0)
         by false elsewhere rest = rest
 

@@ -30,7 +30,6 @@ use Rattle.qu_fitting.proofs.FitCulled.{culled-fits}
 use Rattle.qu_fitting.proofs.FitValues.{method_numbers}
 use Rattle.qu_fitting.proofs.FitDecisions.{AskedFits, DecisionFits}
 use Rattle.qu_fitting.proofs.FitOperations.{act_decision-fits, ask_decision-fits}
-use Rattle.qu_fitting.proofs.PassedRows.{each_weaker}
 use Rattle.qu_fitting.proofs.RisingParts.{parts_rise, each_part}
 use Rattle.qu_fitting.proofs.FitMends.{mend_decision-fits}
 use Rattle.qu_fitting.proofs.FitVersions.{act_sized}
@@ -39,6 +38,7 @@ use Rattle.qu_stamp.specs.declared.stamp.Stamp.{Stamp}
 use Rattle.qu_objects.specs.declared.state.ObjState.{ObjState}
 use Rattle.qu_seal.specs.Keys.{Ring}
 use Rattle.qu_base.specs.declared.party.Party.{Party}
+use Rattle.qu_base.proofs.EachItem.{each_weaker}
 
 pub blank_sized : length blank_mac ≡ 32
 unfolding blank_mac

@@ -3,7 +3,7 @@ use Rattle.std.proofs.Common.{◌≡◌, ℕ, ◌+◌, ◌≤◌, Bool, true, fa
 use Rattle.std.specs.Prelude.{nat_le, ◌==◌}
 use Rattle.std.specs.List.{filter, flat_map}
 use Rattle.std.proofs.lemmas.Bool.Decides.{nat_tests}
-use Rattle.std.proofs.lemmas.Bool.{false≢true, not-true, and_from, and_parts, cases_Bool, eqb-true}
+use Rattle.std.proofs.lemmas.Bool.{false≢true, not-true, and_from, and_parts, cases_Bool}
 use Rattle.std.proofs.lemmas.Option.{none-some, same_Some, cond_some}
 use Rattle.std.proofs.lemmas.List.Folds.{list_any-append}
 use Rattle.qu_base.specs.declared.limits.TheConstants.{LAST_CLIENT}
@@ -12,6 +12,7 @@ use Rattle.qu_base.specs.declared.party.Digest.{Digest}
 use Rattle.qu_base.specs.declared.party.ObjectId.{ObjectId}
 use Rattle.qu_base.specs.Bounds.{quorum, repair}
 use Rattle.qu_base.specs.Format.{FitsFrom, optional, digest_form, flag}
+use Rattle.qu_base.proofs.Numbered.{tested_object}
 use Rattle.qu_stamp.specs.declared.stamp.Stamp.{Stamp}
 use Rattle.qu_stamp.specs.declared.limits.TheConstants.{LAST_TIME}
 use Rattle.qu_stamp.specs.declared.candidate.Candidate.{Candidate}
@@ -151,10 +152,6 @@ joined_fit object one two fits later held holding =
     of_either (holds held one) (holds held two) (fits held) (later held)
     (sym (list_any-append (λ (it : Candidate). same it held) one two) ∙ holding)
 
--- two objects with one number are one
-pub object_is : (one other : ObjectId) → (one.0 == other.0) ≡ true → one ≡ other
-object_is one other is = λ i. record { 0 = eqb-true one.0 other.0 is i }
-
 entries_fit : (object : ObjectId) (least : ℕ) (entries : List Sealed)
     → FitsFrom (sealed_entry_form object) next_entry least entries
     → CandidatesFit object (candidates_of (histories entries))
@@ -164,7 +161,7 @@ entries_fit object least (sealed ∷ later) fits =
     let each : ObjectHistory → List Candidate = λ (entry : ObjectHistory). entry.candidates in
     joined_fit object (sealed.history).candidates (flat_map each (histories later))
     (subst (λ (it : ObjectId). CandidatesFit it (sealed.history).candidates)
-    (object_is (sealed.history).object object ((((fits.0).0).0).1))
+    (tested_object (sealed.history).object object ((((fits.0).0).0).1))
     (candidates_fit (sealed.history).object (sealed.history).candidates ((((fits.0).0).1).1)))
     (entries_fit object (next_entry sealed) later fits.1)
 
@@ -182,7 +179,7 @@ sets_fit_from least (set ∷ later) fits object =
           subst (λ (test : Bool). CandidatesFit object
           (candidates_of (cond test (histories set.entries) (entries_of object later)))) (sym is)
           (subst (λ (it : ObjectId). CandidatesFit it (candidates_of (histories set.entries)))
-          (object_is set.object object is) (entries_fit set.object 0 set.entries (((fits.0).1).1).1))
+          (tested_object set.object object is) (entries_fit set.object 0 set.entries (((fits.0).1).1).1))
       | inr other ↦
           subst (λ (test : Bool). CandidatesFit object
           (candidates_of (cond test (histories set.entries) (entries_of object later)))) (sym other)

@@ -20,11 +20,6 @@ use Rattle.qu_rows.specs.State.{ReplicaState, own_latest}
 use Rattle.qu_rows.specs.Rows.{Asked, shown_of, seen_of, seen_each, method_base, version_seen, base_version, class_told, row_current, row_method, row_version, row_time}
 use Rattle.qu_rows.proofs.Allowed.{none_refused}
 
-pub each_weaker : {X : Type 0} (P Q : X → Type 0) (items : List X) → ((item : X) → P item → Q item)
-    → AllByRecursion P items → AllByRecursion Q items
-each_weaker P Q [] weaker all = tt
-each_weaker P Q (item ∷ later) weaker all = (weaker item all.0, each_weaker P Q later weaker all.1)
-
 given_some : {A : Type 0} (found : Option A) (without : A) → is_none found ≡ false
     → found ≡ Some (unwrap_or found without)
 given_some None without some = absurd (false≢true (sym some))

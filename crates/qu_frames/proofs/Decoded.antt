@@ -73,3 +73,10 @@ pub one_frame : (frame other : Frame) → frame_form.Fits frame → decoded (fra
 one_frame frame other fits given =
     let read = decoded_is_read (frame_form.spell frame) other given in
     one_pair frame other _ read.0 _ (spelled_is_read frame fits) read.1
+
+-- a text is decoded to one frame
+pub one_decoded : (text : List ℕ) (first second : Frame) → decoded text ≡ Ok first → decoded text ≡ Ok second
+    → first ≡ second
+one_decoded text first second one other =
+    let same : Ok first ≡ Ok second = sym one ∙ other in
+    cc

@@ -1,16 +1,15 @@
 -- A signed text is that of the frame with its signature, and is decoded to it.
 use Rattle.std.proofs.Common.{◌≡◌, ℕ, Bool, true, false, cond, ◌+◌, ◌-◌, ◌≤◌, List, ◌++◌, length, None, Some, Result, Ok, Err, refl, sym, ap, subst, ◌∙◌, arith, append_assoc}
 use Rattle.std.specs.Int.{w8, w16, w64, to_be_bytes}
-use Rattle.std.specs.Prelude.{nat_eq}
-use Rattle.std.specs.Cmp.Lexicographic.{pointwise, bytes_decides}
-use Rattle.std.proofs.lemmas.Bool.{and_from}
+use Rattle.std.specs.Cmp.Lexicographic.{bytes_decides}
+use Rattle.std.proofs.lemmas.Bool.{and_from, and_parts}
 use Rattle.std.proofs.lemmas.List.{length-append, take_at}
 use Rattle.std.proofs.lemmas.Option.{none-some, same_Some}
 use Rattle.qu_base.specs.declared.bad_text.BadText.{BadText}
 use Rattle.qu_seal.specs.declared.constants.TheConstants.{FRAME_TAG}
 use Rattle.qu_base.specs.declared.party.Party.{Party}
 use Rattle.qu_seal.specs.Digesting.{digest_of}
-use Rattle.qu_seal.specs.Keys.{Ring, have_key, seal_of, verifies}
+use Rattle.qu_seal.specs.Keys.{Ring, have_key, has_party, seal_of, verifies}
 use Rattle.qu_seal.proofs.Lengths.{length-hmac}
 use Rattle.qu_stamp.specs.Formats.{plain_stamp_form}
 use Rattle.qu_objects.specs.States.{state_form}
@@ -150,9 +149,6 @@ sender_with (Reply replica client number round verdict culled shown mac) other =
 sender_with (Fetch replica object stamp mac) other = refl
 sender_with (Fetched replica object stamp state mac) other = refl
 
-same_bytes : (bytes : List ℕ) → pointwise nat_eq bytes bytes ≡ true
-same_bytes bytes = (bytes_decides bytes bytes).1 refl
-
 -- and its signature is right for the receiver
 pub signed_is_right : (ring : Ring) (to : Party) (frame : Frame) → length (signature ring to frame) ≡ 32
     → have_key ring (sender frame) to ≡ true
@@ -164,9 +160,9 @@ signed_is_right ring to frame size key =
     let front : before_mac (text ++ mac) ≡ text = without text mac size in
     (λ i. verifies ring (sender_with frame mac i) to (record { 0 = digest_of FRAME_TAG (front i) })
     (mac_with frame mac i)) ∙
-    and_from _ _ key (same_bytes mac)
+    and_from _ _ key ((bytes_decides mac mac).1 refl)
 
-signature_sized : (ring : Ring) (to : Party) (frame : Frame) → length (signature ring to frame) ≡ 32
+pub signature_sized : (ring : Ring) (to : Party) (frame : Frame) → length (signature ring to frame) ≡ 32
 unfolding seal_of
 signature_sized ring to frame = length-hmac _ _
 
@@ -214,6 +210,13 @@ brought_is_signed ring to text frame is = signed_if (decoded text) is
           | true ↦ λ right same. ap (is_signed ring to text) (sym (same_Some other frame same)) ∙ right
           | false ↦ λ wrong none. absurd (none-some frame none)
         ] refl found
+
+-- whoever is brought a frame shares a key with its sender
+pub sender_known : (ring : Ring) (to : Party) (text : List ℕ) (taken : Frame) → brought ring to text ≡ Some taken
+    → has_party ring (sender taken) ≡ true
+unfolding is_signed verifies
+sender_known ring to text taken brings =
+    (and_parts _ _ (and_parts _ _ (brought_is_signed ring to text taken brings)).0).0
 
 -- a signed text is received as the frame with the signature
 pub signed_is_brought : (ring : Ring) (to : Party) (frame : Frame) → frame_form.Fits frame

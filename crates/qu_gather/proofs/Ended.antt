@@ -14,6 +14,7 @@ use Rattle.qu_client.specs.Steps.{client_step, client_tick, client_invoke}
 use Rattle.qu_trace.specs.Faulty.{is_same}
 use Rattle.qu_trace.specs.declared.trace.Entry.{Entry}
 use Rattle.qu_trace.specs.declared.trace.Setup.{Setup}
+use Rattle.qu_trace.proofs.Parties.{same_party, same_self}
 use Rattle.qu_world.specs.Step.{ended_by}
 use Rattle.qu_frames.specs.declared.frame.Letter.{Letter}
 use Rattle.qu_frames.specs.declared.input.Input.{Input}
@@ -24,7 +25,6 @@ use Rattle.qu_replay.specs.Replays.{IsStepMade, IsReplay, IsReplayOf, own_steps}
 use Rattle.qu_replay.specs.Standing.{StandsWell}
 use Rattle.qu_replay.specs.Told.{AreTold}
 use Rattle.qu_replay.specs.Operations.{begun_operations, ended_in, ended_operations, under_way, IsBalanced}
-use Rattle.qu_replay.proofs.Actors.{same_party, same_self}
 use Rattle.qu_replay.proofs.Told.{own_here, own_other}
 use Rattle.qu_replay.proofs.Operations.{balanced_from_opening}
 use Rattle.qu_lock.specs.Locked.{ClientStands}

@@ -1,7 +1,7 @@
 -- What all actors kept, told in an order that keeps that of each, is a run on threads.
-use Rattle.std.proofs.Common.{◌≡◌, ℕ, zero, suc, ◌+◌, ◌<◌, Bool, true, false, cond, eqb, List, [], ◌∷◌, ◌++◌, map, length, Option, None, Some, refl, sym, ap, subst, ◌∙◌, append-nil, arith, inl, inr}
+use Rattle.std.proofs.Common.{◌≡◌, ℕ, zero, suc, ◌+◌, ◌<◌, Bool, true, false, cond, eqb, List, [], ◌∷◌, map, length, Option, None, Some, refl, sym, ap, subst, ◌∙◌, append-nil, arith, inl, inr}
 use Rattle.std.specs.Prelude.{option_map, nat_lt, IfSome}
-use Rattle.std.proofs.lemmas.Bool.{cases_Bool, cond_both, eqb-true}
+use Rattle.std.proofs.lemmas.Bool.{cases_Bool, cond_both, eqb-true, false≢true}
 use Rattle.std.proofs.lemmas.List.{take_all}
 use Rattle.qu_base.specs.declared.party.ClientId.{ClientId}
 use Rattle.qu_base.specs.declared.party.ReplicaId.{ReplicaId}
@@ -131,9 +131,6 @@ client_held setup calls me (one ∷ later) low rises stand ended =
       | inr other ↦ rw other (client_held setup calls me later (one.0.me.0 + 1) rises.1 stand.1 ended.1)
     ]
 
-no_true : false ≡ true → ⊥
-no_true is = cc
-
 -- a client that is there began all its calls
 client_begun : (setup : Setup) (calls : List (ClientId × Op)) (me : ClientId)
     (held : List (ClientState × List KeptStep)) (low : ℕ)
@@ -142,7 +139,7 @@ client_begun : (setup : Setup) (calls : List (ClientId × Op)) (me : ClientId)
     → is_among me.0 (map (λ (one : ClientState × List KeptStep). one.0.me.0) held) ≡ true
     → begun_operations (client_steps me.0 held) ≡ calls_by me calls
 unfolding client_steps AscendsFrom is_among
-client_begun setup calls me [] low rises stand ended there = absurd (no_true there)
+client_begun setup calls me [] low rises stand ended there = absurd (false≢true there)
 client_begun setup calls me (one ∷ later) low rises stand ended there =
     elim (cases_Bool (eqb one.0.me.0 me.0)) [
       | inl mine ↦
@@ -172,7 +169,7 @@ unfolding client_steps is_among
 client_absent me [] none = refl
 client_absent me (one ∷ later) none =
     elim (cases_Bool (eqb one.0.me.0 me.0)) [
-      | inl mine ↦ absurd (no_true (sym none ∙ ap (λ (it : Bool). cond it true
+      | inl mine ↦ absurd (false≢true (sym none ∙ ap (λ (it : Bool). cond it true
           (is_among me.0 (map (λ (one : ClientState × List KeptStep). one.0.me.0) later))) mine))
       | inr other ↦ rw other (client_absent me later
           (ap (λ (it : Bool). cond it true
@@ -205,7 +202,7 @@ not_called setup (call ∷ later) me callable none =
       | inl mine ↦
           let is : call.0 ≡ me = ap client_at_number (eqb-true call.0.0 me.0 mine) in
           let here : IsCorrectClient setup me = subst (IsCorrectClient setup) is callable.0 in
-          absurd (no_true (sym none ∙ called_there setup me here))
+          absurd (false≢true (sym none ∙ called_there setup me here))
       | inr other ↦ rw other (not_called setup later me callable.1 none)
     ]
 

@@ -3,6 +3,7 @@ use Rattle.std.proofs.Common.{◌≡◌, ℕ, ◌+◌, ◌<◌, ◌≤◌, Bool,
 use Rattle.std.specs.Option.{option_or}
 use Rattle.std.proofs.lemmas.Bool.{cases_Bool, eqb-true}
 use Rattle.std.proofs.lemmas.List.{at_drop_more, at_drop_all, get_or-map, get_or_default, length-map}
+use Rattle.std.proofs.lemmas.Option.{none-some}
 use Rattle.qu_base.specs.declared.party.ClientId.{ClientId}
 use Rattle.qu_base.specs.declared.party.ReplicaId.{ReplicaId}
 use Rattle.qu_base.specs.declared.party.Party.{Party}
@@ -101,9 +102,6 @@ client_moved names held at one told test within same one_is told_is test_is =
     (Some (party.Client name, told))) (sym test_is)
 
 -- ---- all locks
-
-none-some : {X : Type 0} (x : X) → None ≡ Some x → ⊥
-none-some x is = cc
 
 abbrev replica_at_number : ℕ → ReplicaId
 replica_at_number number = record { 0 = number }

@@ -1,5 +1,5 @@
 -- How the correct parties of a setup begin.
-use Rattle.std.proofs.Common.{◌≡◌, ℕ, zero, suc, ◌<◌, ◌≤◌, Bool, true, false, cond, List, [], ◌∷◌, ◌++◌, length, get_or, None, Some, Option, refl, sym, ap, subst, ◌∙◌, arith, inl, inr}
+use Rattle.std.proofs.Common.{◌≡◌, ℕ, zero, suc, ◌<◌, ◌≤◌, Bool, true, false, cond, List, [], ◌∷◌, length, get_or, None, Some, Option, refl, sym, ap, subst, ◌∙◌, arith, inl, inr}
 use Rattle.std.specs.Prelude.{option_map, nat_lt}
 use Rattle.std.specs.List.{AllByRecursion}
 use Rattle.std.proofs.lemmas.Bool.{cases_Bool, lt-ltb}
@@ -7,6 +7,7 @@ use Rattle.qu_base.specs.declared.party.ClientId.{ClientId}
 use Rattle.qu_base.specs.declared.party.ReplicaId.{ReplicaId}
 use Rattle.qu_base.specs.declared.party.Party.TheVariants as party
 use Rattle.qu_base.specs.Bounds.{replicas}
+use Rattle.qu_base.proofs.EachItem.{each_push, each_weaker}
 use Rattle.qu_seal.specs.Keys.{Ring}
 use Rattle.qu_fitting.specs.Holding as replica
 use Rattle.qu_rows.specs.State.{ReplicaState}
@@ -18,16 +19,6 @@ use Rattle.qu_world.specs.State.{ring_of}
 use Rattle.qu_replay.specs.Steps.{Replicates, Asks}
 use Rattle.qu_replay.specs.Replays.{opening_actor, opening_client, opening_replica}
 use Rattle.qu_gather.specs.Correct.{replica_at, client_at, correct_replicas, correct_clients}
-
-all_push : {X : Type 0} (P : X → Type 0) (xs : List X) (x : X) → AllByRecursion P xs → P x
-    → AllByRecursion P (xs ++ x ∷ [])
-all_push P [] x all here = (here, tt)
-all_push P (first ∷ later) x all here = (all.0, all_push P later x all.1 here)
-
-all_weak : {X : Type 0} (P Q : X → Type 0) (xs : List X) → ((x : X) → P x → Q x) → AllByRecursion P xs
-    → AllByRecursion Q xs
-all_weak P Q [] weak all = tt
-all_weak P Q (x ∷ xs) weak all = (weak x all.0, all_weak P Q xs weak all.1)
 
 all_at : {X : Type 0} (P : X → Type 0) (xs : List X) (at : ℕ) (x : X) → AllByRecursion P xs → at < length xs
     → x ≡ get_or xs at x → P x
@@ -47,13 +38,13 @@ unfolding correct_replicas
 replicas_below setup zero = tt
 replicas_below setup (suc place) =
     let before : AllByRecursion (IsReplicaBelow setup (suc place)) (correct_replicas setup place) =
-    all_weak (IsReplicaBelow setup place) (IsReplicaBelow setup (suc place)) (correct_replicas setup place)
+    each_weaker (IsReplicaBelow setup place) (IsReplicaBelow setup (suc place)) (correct_replicas setup place)
     (λ (me : ReplicaId) is. record { below = (let less = is.below in omega (arith, less)); good = is.good })
     (replicas_below setup place) in
     elim (cases_Bool (is_faulty setup (party.Replica (replica_at place)))) [
       | inl faulty ↦ rw faulty before
       | inr correct ↦ rw correct
-          (all_push (IsReplicaBelow setup (suc place)) (correct_replicas setup place) (replica_at place) before
+          (each_push (IsReplicaBelow setup (suc place)) (correct_replicas setup place) (replica_at place) before
           (record { below = omega arith; good = correct }))
     ]
 
@@ -86,14 +77,14 @@ unfolding correct_clients
 clients_up_to setup zero = tt
 clients_up_to setup (suc place) =
     let before : AllByRecursion (IsClientUpTo setup (suc place)) (correct_clients setup place) =
-    all_weak (IsClientUpTo setup place) (IsClientUpTo setup (suc place)) (correct_clients setup place)
+    each_weaker (IsClientUpTo setup place) (IsClientUpTo setup (suc place)) (correct_clients setup place)
     (λ (me : ClientId) is.
     record { first = is.first; last = (let most = is.last in omega (arith, most)); good = is.good })
     (clients_up_to setup place) in
     elim (cases_Bool (is_faulty setup (party.Client (client_at place)))) [
       | inl faulty ↦ rw faulty before
       | inr correct ↦ rw correct
-          (all_push (IsClientUpTo setup (suc place)) (correct_clients setup place) (client_at place) before
+          (each_push (IsClientUpTo setup (suc place)) (correct_clients setup place) (client_at place) before
           (record { first = omega arith; last = omega arith; good = correct }))
     ]
 

@@ -1,6 +1,6 @@
 -- The record of operations of a run on threads has the operations that its clients are called for.
 use Rattle.std.proofs.Common.{◌≡◌, ℕ, ◌+◌, Bool, true, false, cond, eqb, List, [], ◌∷◌, ◌++◌, map, filter, refl, sym, ap, ◌∙◌, inl, inr}
-use Rattle.std.proofs.lemmas.Bool.{cases_Bool, eqb-true}
+use Rattle.std.proofs.lemmas.Bool.{cases_Bool, eqb-true, false≢true}
 use Rattle.std.proofs.lemmas.List.{map-append}
 use Rattle.std.proofs.lemmas.List.Elements.{filter-append}
 use Rattle.qu_base.specs.declared.party.ClientId.{ClientId}
@@ -19,9 +19,6 @@ use Rattle.qu_gather.specs.Live.{IsCorrectClient, AreCallsOf, operations_by}
 
 abbrev client_at_number : ℕ → ClientId
 client_at_number number = record { 0 = number }
-
-no_true : false ≡ true → ⊥
-no_true is = cc
 
 by_append : (me : ClientId) (front later : List OpRecord)
     → operations_by me (front ++ later) ≡ operations_by me front ++ operations_by me later
@@ -120,7 +117,7 @@ faulty_called setup (call ∷ later) me callable faulty =
     elim (cases_Bool (eqb call.0.0 me.0)) [
       | inl same ↦
           let here : IsCorrectClient setup call.0 = callable.0 in
-          absurd (no_true (sym here.correct ∙ faulty_as setup me call.0 same ∙ faulty))
+          absurd (false≢true (sym here.correct ∙ faulty_as setup me call.0 same ∙ faulty))
       | inr apart ↦ rw apart (faulty_called setup later me callable.1 faulty)
     ]
 

@@ -2,12 +2,13 @@
 use Rattle.std.proofs.Common.{◌≡◌, ℕ, zero, suc, ◌+◌, Bool, true, false, cond, eqb, List, [], ◌∷◌, ◌++◌, length, Option, None, Some, refl, sym, ap, subst, ◌∙◌, append-nil, arith, inl, inr, ◌⊎◌}
 use Rattle.std.specs.Prelude.{◌&&◌, ◌||◌, is_some, nat_lt, option_map}
 use Rattle.std.specs.List.{AllByRecursion}
-use Rattle.std.proofs.lemmas.Bool.{cases_Bool, cond_both, eq-eqb, eqb-true, ne_eqb}
+use Rattle.std.proofs.lemmas.Bool.{cases_Bool, cond_both, eq-eqb, eqb-true, ne_eqb, or_right, false≢true}
 use Rattle.std.proofs.lemmas.Option.{none-some, same_Some}
 use Rattle.std.proofs.lemmas.List.Sums.{sum_by_push}
 use Rattle.qu_base.specs.declared.party.ClientId.{ClientId}
 use Rattle.qu_base.specs.declared.party.Party.{Party}
 use Rattle.qu_base.specs.declared.party.Party.TheVariants as party
+use Rattle.qu_base.proofs.EachItem.{each_append}
 use Rattle.qu_objects.specs.declared.op.Op.{Op}
 use Rattle.qu_objects.specs.declared.op.Outcome.{Outcome}
 use Rattle.qu_frames.specs.declared.frame.Letter.{Letter}
@@ -27,14 +28,13 @@ use Rattle.qu_trace.specs.declared.event.Event.TheVariants as event
 use Rattle.qu_trace.specs.declared.trace.Entry.{Entry}
 use Rattle.qu_trace.specs.declared.trace.Setup.{Setup}
 use Rattle.qu_trace.specs.Operation.{invokes, begun_by, outcome_in, first_end, end_from, begins_at, operations_from}
+use Rattle.qu_trace.proofs.Parties.{same_self}
 use Rattle.qu_world.specs.Step.{ended_by}
-use Rattle.qu_world.proofs.Each.{each_append}
 use Rattle.qu_replay.specs.Steps.{Actor, Replicates, Asks, actor_moved, IsTakenByClient}
 use Rattle.qu_replay.specs.declared.kept_step.KeptStep.{KeptStep}
 use Rattle.qu_replay.specs.Replays.{IsStepMade, IsReplay, IsReplayOf, own_steps, opening_actor, opening_client}
 use Rattle.qu_replay.specs.Told.{AreTold, IsEventOf}
 use Rattle.qu_replay.specs.Operations.{begun_in, begun_operations, invoked_at, invoked_by}
-use Rattle.qu_replay.proofs.Actors.{same_self}
 use Rattle.qu_replay.proofs.Told.{own_here, own_other}
 use Rattle.qu_replay.proofs.Operations.{told_invoked}
 use Rattle.qu_gather.specs.Live.{HasEnd}
@@ -185,10 +185,6 @@ moved_goes me number state (Invoke op) can works = absurd (none-some works.0 (sy
 either : (one other : Bool) → one ≡ true → (one || other) ≡ true
 either one other is = rw is refl
 
-later_too : (one other : Bool) → other ≡ true → (one || other) ≡ true
-later_too true other is = refl
-later_too false other is = is
-
 works_not : (number : ℕ) (actor : Actor) → IsIdleEnd (Some actor) → WorksOn number actor → ⊥
 works_not number (Replicates state) idle works = works
 works_not number (Asks state) idle works = none-some works.0 (sym idle ∙ works.1)
@@ -203,7 +199,7 @@ finishes me number (Replicates state) (step ∷ later) last idle replay works = 
 finishes me number (Asks state) (step ∷ later) last idle replay works =
     let made : IsStepMade (party.Client me) (Asks state) step = replay.0 in
     elim (moved_goes me number state step.input made.can works) [
-      | inl on ↦ later_too (is_some (outcome_in me number step.ended)) (ends_in me number later)
+      | inl on ↦ or_right (is_some (outcome_in me number step.ended)) (ends_in me number later)
           (finishes me number (actor_moved (party.Client me) (Asks state) step.input).actor later last idle replay.1 on)
       | inr end ↦ either (is_some (outcome_in me number step.ended)) (ends_in me number later)
           (ap (λ (it : Option (ClientId × ℕ × Outcome)). is_some (outcome_in me number it)) made.ended ∙ end)
@@ -235,7 +231,7 @@ unfolding ends_in
 first_ends me count state step later last (Frame name text) idle is rest = tt
 first_ends me count state step later last Tick idle is rest = tt
 first_ends me count state step later last (Invoke op) idle is rest =
-    later_too (is_some (outcome_in me (count + 1) step.ended)) (ends_in me (count + 1) later)
+    or_right (is_some (outcome_in me (count + 1) step.ended)) (ends_in me (count + 1) later)
     (finishes me (count + 1) (Asks (client_invoke state op).state) later last idle rest
     (invoked_works count state op is))
 
@@ -373,12 +369,9 @@ counts_as me (event.Invoke other op) =
           ∙ sym (ap (λ (it : Bool). length (cond it (op ∷ []) [])) same)
       | inr apart ↦
           ap (λ (it : Bool). cond it 1 0)
-          (ne_eqb me.0 other.0 (λ is. no_true (sym apart ∙ eq-eqb other.0 me.0 (sym is))))
+          (ne_eqb me.0 other.0 (λ is. false≢true (sym apart ∙ eq-eqb other.0 me.0 (sym is))))
           ∙ sym (ap (λ (it : Bool). length (cond it (op ∷ []) [])) apart)
     ]
-  where
-    no_true : false ≡ true → ⊥
-    no_true is = cc
 counts_as me (event.Deliver number) = refl
 counts_as me (event.Tick other) = refl
 counts_as me (event.Inject who text) = refl

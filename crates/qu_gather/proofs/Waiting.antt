@@ -2,7 +2,7 @@
 use Rattle.std.proofs.Common.{◌≡◌, ℕ, zero, suc, ◌+◌, ◌<◌, Bool, true, false, cond, List, [], ◌∷◌, ◌++◌, length, take, Option, None, Some, refl, sym, ap, subst, ◌∙◌, append_assoc, append-nil, length-append, arith, inl, inr}
 use Rattle.std.specs.Prelude.{slice_get}
 use Rattle.std.specs.Option.{option_or}
-use Rattle.std.proofs.lemmas.Bool.{cases_Bool, eqb-true, eq-eqb}
+use Rattle.std.proofs.lemmas.Bool.{cases_Bool, eqb-true, eq-eqb, false≢true}
 use Rattle.std.proofs.lemmas.List.{map-append, length-map}
 use Rattle.std.proofs.lemmas.Option.{none-some, same_Some}
 use Rattle.qu_base.specs.declared.party.ClientId.{ClientId}
@@ -15,9 +15,6 @@ use Rattle.qu_trace.specs.declared.trace.Setup.{Setup}
 use Rattle.qu_trace.specs.Letters.{letters_of}
 use Rattle.qu_gather.specs.Ticks.{senders_of, asker_of, waiting_client, WasDelivered, IsTick, TicksAnswered, is_delivery_of, is_tick_of, is_in_time, late_for, late_among, late_letter}
 
-no_true : false ≡ true → ⊥
-no_true is = cc
-
 neither : {X : Type 0} (first later : Option X) → option_or first later ≡ None → (first ≡ None) × (later ≡ None)
 neither None later is = (refl, is)
 neither (Some x) later is = absurd (none-some x (sym is))
@@ -25,10 +22,10 @@ neither (Some x) later is = absurd (none-some x (sym is))
 -- ---- before the next tick
 
 delivered_at : (number : ℕ) (happened : Event) → is_delivery_of number happened ≡ true → happened ≡ event.Deliver number
-delivered_at number (event.Invoke client op) is = absurd (no_true is)
+delivered_at number (event.Invoke client op) is = absurd (false≢true is)
 delivered_at number (event.Deliver letter) is = ap (λ (it : ℕ). event.Deliver it) (eqb-true letter number is)
-delivered_at number (event.Tick client) is = absurd (no_true is)
-delivered_at number (event.Inject who text) is = absurd (no_true is)
+delivered_at number (event.Tick client) is = absurd (false≢true is)
+delivered_at number (event.Inject who text) is = absurd (false≢true is)
 
 -- with an entry before
 delivered_later : (first : Entry) (entries : List Entry) (number : ℕ) → WasDelivered entries number
@@ -41,14 +38,14 @@ tick_bars : (me : ClientId) (number : ℕ) (later : List Entry) (happened : Even
     ≡ true
     → ⊥
 tick_bars me number later happened is in_time =
-    no_true
+    false≢true
     (sym (ap (λ (it : Event).
     cond (is_delivery_of number it) true (cond (is_tick_of me it) false (is_in_time me number later))) is
     ∙ ap (λ (it : Bool). cond it false (is_in_time me number later)) (eq-eqb me.0 me.0 refl))
     ∙ in_time)
 
 no_tick : (ticks rest : Bool) → cond ticks false rest ≡ true → rest ≡ true
-no_tick true rest is = absurd (no_true is)
+no_tick true rest is = absurd (false≢true is)
 no_tick false rest is = is
 
 in_time_delivered : (me : ClientId) (number : ℕ) (later : List Entry) (tick : ℕ) → is_in_time me number later ≡ true

@@ -1,7 +1,8 @@
 -- Lines that stand behind one another, and those of the operations, one by one.
-use Rattle.std.proofs.Common.{◌≡◌, ℕ, ◌+◌, ◌-◌, ◌<◌, List, [], ◌∷◌, ◌++◌, arith, suc, ap, sym, ◌∙◌, append_assoc}
+use Rattle.std.proofs.Common.{◌≡◌, ℕ, ◌+◌, ◌-◌, ◌<◌, List, [], ◌∷◌, ◌++◌, ap, sym, ◌∙◌, append_assoc}
 use Rattle.std.specs.List.{flat_map, range_with_len}
 use Rattle.std.proofs.lemmas.Grind.{flat_map-append}
+use Rattle.qu_base.proofs.Items.{range_begins}
 use Rattle.qu_gen.specs.Script.{generated_setup, lines_of_first, ended, generated_script}
 
 pub ended-append : (lines more : List (List ℕ)) → ended (lines ++ more) ≡ ended lines ++ ended more
@@ -23,19 +24,10 @@ pub script_parts : (number : ℕ) → generated_script number
     ≡ ended (generated_setup number) ++ ended (lines_of_first 400 number)
 script_parts number = ended-append (generated_setup number) (lines_of_first 400 number)
 
-range-above : (first count fewer : ℕ) → count ≡ suc fewer
-    → range_with_len first count ≡ first ∷ range_with_len (first + 1) fewer
-range-above first count fewer e = ap (range_with_len first) e
-
--- the places from the one behind `earlier` up to `last` begin with that one
-places_step : (earlier last : ℕ) → earlier < last → range_with_len (earlier + 1) (last - earlier)
-    ≡ (earlier + 1) ∷ range_with_len (earlier + 1 + 1) (last - (earlier + 1))
-places_step earlier last h = range-above (earlier + 1) (last - earlier) (last - (earlier + 1)) (omega arith)
-
 -- what is written stays the front of the whole as the lines of the next place are written
 pub places_written : (at : ℕ → List (List ℕ)) (earlier last : ℕ) (before written whole : List ℕ) → earlier < last
     → before ++ ended (flat_map at (range_with_len (earlier + 1) (last - earlier))) ≡ whole
     → written ≡ before ++ ended (at (earlier + 1))
     → written ++ ended (flat_map at (range_with_len (earlier + 1 + 1) (last - (earlier + 1)))) ≡ whole
 places_written at earlier last before written whole h so_far next =
-    rw next (rw append_assoc (rw (← ended-append) (rw (places_step earlier last h) at so_far)))
+    rw next (rw append_assoc (rw (← ended-append) (rw (range_begins earlier last h) at so_far)))

@@ -1,5 +1,5 @@
 -- What a replica accepts upon a frame, and why: nothing, or one candidate on each object of an act.
-use Rattle.std.proofs.Common.{◌≡◌, ◌⊎◌, ℕ, Bool, true, false, cond, List, [], ◌∷◌, ◌++◌, map, length, Option, None, Some, Result, Ok, Err, inl, inr, refl, sym, subst, ap, ◌∙◌, ltb, ◌≤◌, ltb-false}
+use Rattle.std.proofs.Common.{◌≡◌, ◌⊎◌, ℕ, Bool, true, false, cond, List, [], ◌∷◌, ◌++◌, map, length, Option, None, Some, Result, Ok, Err, inl, inr, refl, sym, subst, ap, ◌∙◌, ltb, ◌≤◌}
 use Rattle.std.specs.Prelude.{find, nat_lt}
 use Rattle.std.specs.List.{AllByRecursion}
 use Rattle.std.proofs.lemmas.Option.{none-some, same_Some}
@@ -28,7 +28,7 @@ use Rattle.qu_mends.specs.Table.{first_given}
 use Rattle.qu_replica.specs.Step.{carried_out, replica_on_frame}
 use Rattle.qu_rows.specs.Allowed.{HasParts, MayAccept, MayAcceptAll}
 use Rattle.qu_fitting.proofs.Accepting.{other_history}
-use Rattle.qu_rows.proofs.Allowed.{decision_on-may, unmapped}
+use Rattle.qu_rows.proofs.Allowed.{decision_on-may, unmapped, enough_shown}
 use Rattle.qu_claims.specs.Grounds.{Accepts, IsRemedy}
 use Rattle.qu_mends.specs.declared.mending.Mending.{Mending}
 use Rattle.qu_mends.specs.declared.mending.Mending.TheVariants as mending
@@ -43,6 +43,7 @@ use Rattle.qu_class.proofs.OfKind.{base_is_greatest, held_if_repairable}
 use Rattle.qu_stamp.specs.Group.{is_group}
 use Rattle.qu_grounds.proofs.Formed.{AreGrouped}
 use Rattle.qu_base.specs.Bounds.{quorum}
+use Rattle.qu_base.proofs.Items.{no_item}
 use Rattle.qu_class.specs.Class.{class_in}
 use Rattle.qu_plan.specs.declared.plan.CopyPlan.{CopyPlan}
 use Rattle.qu_plan.specs.declared.plan.PlanFail.{PlanFail}
@@ -58,7 +59,7 @@ use Rattle.qu_class.proofs.GroupRule.{own_tells}
 use Rattle.qu_mends.proofs.Members.{IsShownWith, each_course, group_agrees}
 use Rattle.qu_rows.proofs.MendedObjects.{mending_has_cause, enough_in_sets}
 use Rattle.qu_grounds.proofs.Remedies.{inlined, wanted_plain, planned_of, remedy_is, adds_alone}
-use Rattle.qu_grounds.proofs.GroupAcceptance.{no_member, each_member, members_listed, IsJoinedAt, AddsGroup, joined, all_joined, adds_group, group_stamps}
+use Rattle.qu_grounds.proofs.GroupAcceptance.{each_member, members_listed, IsJoinedAt, AddsGroup, joined, all_joined, adds_group, group_stamps}
 use Rattle.qu_grounds.proofs.CopyAcceptance.{copies_added}
 use Rattle.qu_claims.specs.Parts.{Names}
 use Rattle.qu_versions.specs.declared.stored.Stored.{Stored}
@@ -225,7 +226,7 @@ module _ (state : ReplicaState) (asked : Asked) (no_act : asked.act ≡ None)
       → is_group group ≡ test → cond test group [] ≡ member ∷ later
       → (is_group group ≡ true) × (group ≡ member ∷ later)
   whole_is group true member later is given = (is, given)
-  whole_is group false member later is given = absurd (no_member member later given)
+  whole_is group false member later is given = absurd (no_item member later given)
 
   -- or copied
   copied_group_added : class_in own_bounds asked.sets target ≡ class.Copy → (plan : Result CopyPlan PlanFail)
@@ -247,11 +248,11 @@ module _ (state : ReplicaState) (asked : Asked) (no_act : asked.act ≡ None)
             (made ∙ ap (made_group asked.sets) (sym whole.1)) accepted added),
       )
   copied_group_added copy (Err (why.Stale other)) is member later made none accepted added =
-      absurd (no_member member later none)
+      absurd (no_item member later none)
   copied_group_added copy (Err (why.Needs other)) is member later made none accepted added =
-      absurd (no_member member later none)
+      absurd (no_item member later none)
   copied_group_added copy (Err why.NoMemory) is member later made none accepted added =
-      absurd (no_member member later none)
+      absurd (no_item member later none)
 
   abbrev course_by_class : Class → Course
   course_by_class class = course_by own_bounds asked.sets target (plan_of own_bounds asked.sets own_link target) class
@@ -263,7 +264,7 @@ module _ (state : ReplicaState) (asked : Asked) (no_act : asked.act ≡ None)
       → ArePartsAdded asked_mend (map (part_of state asked) (course_by_class class).members) accepted
       → AddsSomeGroup accepted
   unfolding course_by
-  by_class (class.Method base) is member later made shown none accepted added = absurd (no_member member later none)
+  by_class (class.Method base) is member later made shown none accepted added = absurd (no_item member later none)
   by_class (class.InlineMethod base) is member later made shown group accepted added =
       let whole = whole_is base.group (is_group base.group) member later refl group in
       inline_group base member later is group shown accepted
@@ -272,11 +273,11 @@ module _ (state : ReplicaState) (asked : Asked) (no_act : asked.act ≡ None)
   by_class class.Copy is member later made shown group accepted added =
       copied_group_added is (plan_of own_bounds asked.sets own_link target) refl member later made group accepted added
   by_class (class.InlineBarrier base) is member later made shown none accepted added =
-      absurd (no_member member later none)
+      absurd (no_item member later none)
   by_class (class.Barrier prior) is member later made shown none accepted added =
-      absurd (no_member member later none)
+      absurd (no_item member later none)
   by_class (class.Needs object) is member later made shown none accepted added =
-      absurd (no_member member later none)
+      absurd (no_item member later none)
 
   by_group : (group : List (ObjectId × ℕ)) → course.group ≡ group → (accepted : List Accepted)
       → ArePartsAdded asked_mend (map (part_of state asked) (remedies_by target course group)) accepted
@@ -324,16 +325,6 @@ all_known : (state : ReplicaState) (asked : Asked) (target : ObjectId) → row_e
 unfolding row_evidence
 all_known state asked target none = none_awaited (missing_of state (evidence_for state asked target)) none
 
-not_few : (state : ReplicaState) (asked : Asked) (target : ObjectId) → row_few state asked target ≡ None
-    → quorum state.keys.bounds ≤ length (shown_of asked target)
-unfolding row_few
-not_few state asked target none =
-    ltb-false _ _ (none_if (ltb (length (shown_of asked target)) (quorum state.keys.bounds)) _ none)
-  where
-    none_if : {X : Type 0} (test : Bool) (it : X) → cond test (Some it) None ≡ None → test ≡ false
-    none_if false it none = refl
-    none_if true it none = absurd (none-some it (sym none))
-
 at_last : (P : List Accepted → Type 0) (decision : Decision) → P (accepted_in decision)
     → P (accepted_in (first_given (Waits []) (Some decision ∷ [])))
 unfolding first_given
@@ -357,7 +348,7 @@ repair_accepts state asked target no_act formed grouped =
     past most _ _ (inl refl) (few state asked target) (λ enough.
     past most _ _ (inl refl) (evidence state asked target) (λ ready.
     at_last most (decision_by target (mending_on state asked target))
-    (mended state asked no_act formed grouped (not_thin state asked fat) target (not_few state asked target enough)
+    (mended state asked no_act formed grouped (not_thin state asked fat) target (enough_shown state asked target enough)
     (all_known state asked target ready)
     (mending_on state asked target) (mending_has_cause state asked target))))))
 

@@ -1,9 +1,8 @@
 -- The sets of a request that fits its format are histories whose stamps rise, of which a replica tells the class, and
 -- each candidate in them has a group, or stands alone.
-use Rattle.std.proofs.Common.{◌≡◌, ℕ, suc, ◌+◌, ◌==◌, ◌&&◌, ◌||◌, Bool, true, false, not, List, [], ◌∷◌, length, cond, IsTrue, Option, None, Some, inl, inr, refl, sym, ap, subst, ◌∙◌, arith}
+use Rattle.std.proofs.Common.{◌≡◌, ℕ, ◌+◌, ◌==◌, ◌&&◌, ◌||◌, Bool, true, false, not, List, [], ◌∷◌, length, cond, IsTrue, Option, None, Some, inl, inr, refl, sym, ap, subst, ◌∙◌}
 use Rattle.std.specs.List.{All, flat_map}
 use Rattle.std.proofs.lemmas.Bool.{cases_Bool, false≢true, and_parts, or_cases}
-use Rattle.std.proofs.lemmas.Bool.Decides.{nat_tests}
 use Rattle.std.proofs.lemmas.List.Folds.{list_any-append}
 use Rattle.std.proofs.lemmas.List.Elements.{All-nil, All-cons}
 use Rattle.qu_base.specs.Format.{FitsFrom}
@@ -14,7 +13,7 @@ use Rattle.qu_stamp.specs.declared.candidate.Candidate.{Candidate}
 use Rattle.qu_stamp.specs.Candidate.{same}
 use Rattle.qu_stamp.specs.Group.{is_group, is_group_size}
 use Rattle.qu_stamp.specs.Formats.{is_opening_time, may_have_act, members_form, group_form, basis_form}
-use Rattle.qu_stamp.proofs.Forms.{fits_group}
+use Rattle.qu_stamp.proofs.Forms.{fits_group, some_size}
 use Rattle.qu_stamp.proofs.Order.{equal_by_same}
 use Rattle.qu_history.specs.declared.sealed.Sealed.{Sealed}
 use Rattle.qu_history.specs.declared.sets.SetOf.{SetOf}
@@ -69,9 +68,6 @@ pub record IsGrouped (candidate : Candidate) : Type 0 where
 -- of each candidate that the entries hold
 abbrev pub AreGrouped : List ObjectHistory → Type 0
 AreGrouped entries = (candidate : Candidate) → holds candidate (candidates_of entries) ≡ true → IsGrouped candidate
-
-some_size : (count : ℕ) → (suc count == 0) ≡ false
-some_size count = grind (arith, nat_tests)
 
 barrier_has_none : (size opened : Bool) → size ≡ false → (size || (opened && not true)) ≡ false
 barrier_has_none true opened is = absurd (false≢true (sym is))

@@ -13,6 +13,7 @@ use Rattle.qu_stamp.proofs.Order.{is_below-self, is_below-not_chain, equal_by_sa
 use Rattle.qu_history.specs.History.{ObjectHistory, holds}
 use Rattle.qu_history.specs.Sets.{entries_of, order_of, latest_of, object_candidate, if_method, method_at}
 use Rattle.qu_history.proofs.Stamps.{not_below_latest}
+use Rattle.qu_history.proofs.Method.{if_method_found}
 use Rattle.qu_rows.specs.Rows.{Asked, fresh_stamp, asked_of, act_asked, objects_of, linking_of}
 use Rattle.qu_class.specs.Repairable.{object_base}
 use Rattle.qu_rows.specs.State.{ReplicaState, own_candidates, own_latest}
@@ -59,20 +60,12 @@ pub is_base : (bounds : ℕ) (entries : List ObjectHistory) (base : Candidate)
 unfolding method_at
 is_base bounds entries base given = base_of_found bounds entries (object_candidate bounds entries) base given
 
--- what an operation may rest upon is the object candidate
-found_is : (bounds : ℕ) (entries : List ObjectHistory) (found : Option Candidate) (base : Candidate)
-    → if_method bounds entries found ≡ Some base → found ≡ Some base
-unfolding if_method
-found_is bounds entries None base given = absurd (none-some base given)
-found_is bounds entries (Some candidate) base given = ap (λ (it : Candidate). Some it) (cond_some _ candidate base
-    given).1
-
 pub base_of_method : (bounds : ℕ) (entries : List ObjectHistory) (base : Candidate)
     → method_at bounds entries ≡ Some base → object_base bounds entries ≡ base
 unfolding method_at object_base
 base_of_method bounds entries base given =
     ap (λ (found : Option Candidate). unwrap_or found opening)
-    (found_is bounds entries (object_candidate bounds entries) base given)
+    (if_method_found bounds entries (object_candidate bounds entries) base given)
 
 -- ---- where its replica has it
 

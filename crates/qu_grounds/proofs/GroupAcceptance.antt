@@ -1,5 +1,5 @@
 -- What a replica accepts on all objects of a group upon a request to mend one of them.
-use Rattle.std.proofs.Common.{◌≡◌, ◌==◌, ℕ, Bool, true, false, cond, List, [], ◌∷◌, ◌++◌, map, length, Option, None, Some, inl, inr, refl, sym, ap, subst, ◌∙◌, ◌≤◌, arith}
+use Rattle.std.proofs.Common.{◌≡◌, ◌==◌, ℕ, Bool, true, false, cond, List, [], ◌∷◌, ◌++◌, map, length, Option, None, Some, inl, inr, refl, sym, ap, subst, ◌∙◌, ◌≤◌}
 use Rattle.std.specs.Prelude.{find, option_map}
 use Rattle.std.specs.List.{AllByRecursion, list_all}
 use Rattle.std.proofs.lemmas.Bool.{false≢true, and_parts, eqb-true, eq-eqb}
@@ -18,7 +18,7 @@ use Rattle.qu_class.specs.declared.class.Class.TheVariants.{InlineMethod}
 use Rattle.qu_class.specs.Class.{agrees, is_latest, listed_stamp, class_in}
 use Rattle.qu_class.specs.Repairable.{object_base}
 use Rattle.qu_kept.specs.Remedy.{whole_group}
-use Rattle.qu_mends.proofs.Members.{inline_joined}
+use Rattle.qu_mends.proofs.Members.{inline_joined, whole_is}
 use Rattle.qu_frames.specs.declared.frame.Body.TheVariants as body
 use Rattle.qu_frames.specs.declared.frame.Frame.TheVariants as frame
 use Rattle.qu_base.specs.declared.party.ClientId.{ClientId}
@@ -85,9 +85,6 @@ module _ (candidates : ObjectId → Candidate) (versions : ObjectId → Option O
       (all_stored later)
 
 -- ---- what is added on a group
-
-pub no_member : {X : Type 0} (item : X) (items : List X) → [] ≡ item ∷ items → ⊥
-no_member item items same = omega (arith, ap length same)
 
 module _ (state : ReplicaState) (asked : Asked) (target : ObjectId) (group : List (ObjectId × ℕ))
     (candidates : ObjectId → Candidate) (versions : ObjectId → Option ObjState) where
@@ -174,11 +171,6 @@ module _ (bounds : ℕ) (sets : List SetOf) where
         equal_by_same_stamp base.stamp (listed_stamp first member) stamps.0,
         agreeing_stamps first later both.1,
       )
-
-  whole_is : (group : List (ObjectId × ℕ)) (test : Bool) (member : ObjectId × ℕ) (later : List (ObjectId × ℕ))
-      → cond test group [] ≡ member ∷ later → group ≡ member ∷ later
-  whole_is group true member later is = is
-  whole_is group false member later is = absurd (no_member member later is)
 
   -- the object candidates of the group that is added as it is
   pub group_stamps : (object : ObjectId) (candidate : Candidate) (member : ObjectId × ℕ) (later : List (ObjectId × ℕ))

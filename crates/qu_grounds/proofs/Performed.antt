@@ -47,17 +47,6 @@ version_at-later object stamp (held ∷ later) more none =
       | false ↦ λ there. version_at-later object stamp later more there
     ] none
 
--- and so a version that is stored alone
-pub version_at-push : (object : ObjectId) (stamp : Stamp) (versions : List Stored) (version : ObjState)
-    → version_at object stamp versions ≡ None
-    → version_at object stamp (versions ++ (record { object = object; stamp = stamp; state = version }) ∷ [])
-    ≡ Some version
-unfolding version_at
-version_at-push object stamp versions version none =
-    version_at-later object stamp versions _ none
-    ∙ ap (λ (test : Bool). cond test (Some version) None)
-    (and_from _ _ (eq-eqb object.0 object.0 refl) (same_stamp-self stamp))
-
 module _ (candidates : ObjectId → Candidate) (versions : ObjectId → ObjState) where
   abbrev stored : List (ObjectId × Method) → List Stored
   stored parts = stored_of candidates versions parts

@@ -38,8 +38,8 @@ use Rattle.qu_class.proofs.BaseOfClass.{barrier_has_base}
 use Rattle.qu_plan.proofs.Copying.{IsCopied, plan_copies}
 use Rattle.qu_class.proofs.GroupRule.{OwnTells}
 use Rattle.qu_class.proofs.OfKind.{held_if_repairable}
-use Rattle.qu_plan.proofs.Versions.{object_is}
 use Rattle.qu_base.specs.Bounds.{quorum, repair}
+use Rattle.qu_base.proofs.Numbered.{object_is}
 use Rattle.qu_grounds.proofs.Formed.{AreGrouped}
 use Rattle.qu_grounds.proofs.Planned.{plan_group}
 

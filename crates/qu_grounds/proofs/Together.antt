@@ -7,7 +7,7 @@ use Rattle.qu_base.specs.declared.party.ObjectId.{ObjectId}
 use Rattle.qu_stamp.specs.declared.stamp.Stamp.{Stamp}
 use Rattle.qu_stamp.specs.declared.candidate.Candidate.{Candidate}
 use Rattle.qu_stamp.specs.Candidate.{member as member_on}
-use Rattle.qu_stamp.specs.Group.{is_group, listed_time}
+use Rattle.qu_stamp.specs.Group.{listed_time}
 use Rattle.qu_stamp.proofs.Groups.{alone_has_no_member}
 use Rattle.qu_objects.specs.declared.act.Method.{Method}
 use Rattle.qu_frames.specs.declared.frame.Body.{Body}
@@ -124,14 +124,6 @@ module _ (asked : Asked) where
   fresh_lists (part ∷ []) object other (inl is) (inr none) apart = absurd none
   fresh_lists (first ∷ second ∷ later) object other names besides apart =
       lists_part time_on (first ∷ second ∷ later) other besides
-
-  -- and of copies, with those on the objects of a group
-  pub group_lists : (group : List (ObjectId × ℕ)) → is_group group ≡ true → (other : ObjectId) → Names group other
-      → listed_time other (fresh_group asked (objects_of group)) ≡ Some (time_on other)
-  unfolding is_group
-  group_lists [] is other names = absurd names
-  group_lists (member ∷ []) is other names = absurd (false≢true is)
-  group_lists (first ∷ second ∷ later) is other names = lists_part time_on (first ∷ second ∷ later) other names
 
   pub fresh_listed : {X : Type 0} (parts : List (ObjectId × X)) (other : ObjectId) (time : ℕ)
       → listed_time other (fresh_group asked (objects_of parts)) ≡ Some time

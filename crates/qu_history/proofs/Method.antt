@@ -46,7 +46,7 @@ latest_of_next entries index stamp entry within is_latest is_entry =
     ap (λ (other : ObjectHistory). greater_stamp stamp (latest other.candidates)) (sym is_entry)
 
 -- what is of class METHOD has no barrier
-if_method_found : (bounds : ℕ) (entries : List ObjectHistory) (found : Option Candidate) (candidate : Candidate)
+pub if_method_found : (bounds : ℕ) (entries : List ObjectHistory) (found : Option Candidate) (candidate : Candidate)
     → if_method bounds entries found ≡ Some candidate → found ≡ Some candidate
 unfolding if_method
 if_method_found bounds entries None candidate given = given

@@ -1,9 +1,9 @@
 -- What a replica sealed is right for each replica of its ring, and sets whose entries are all right are culled to
 -- themselves, with nothing left out.
 use Rattle.std.proofs.Common.{◌≡◌, ℕ, ◌<◌, Bool, true, not, cond, List, [], ◌∷◌, ◌++◌, length, Some, IsTrue, refl, ap, ◌∙◌, arith}
-use Rattle.std.specs.Prelude.{nat_eq, map, filter, slice_get}
+use Rattle.std.specs.Prelude.{map, filter, slice_get}
 use Rattle.std.specs.List.{range_with_len, list_all, flat_map}
-use Rattle.std.specs.Cmp.Lexicographic.{pointwise, bytes_decides}
+use Rattle.std.specs.Cmp.Lexicographic.{bytes_decides}
 use Rattle.std.proofs.lemmas.Bool.{and_from, and_parts, ltb-true, eq-eqb}
 use Rattle.std.proofs.lemmas.List.FromFn.{length-map-range_with_len, get_or-map-range_with_len}
 use Rattle.std.proofs.lemmas.Option.{slice_get-get_or}
@@ -19,9 +19,6 @@ use Rattle.qu_history.specs.Sealing.{sealed_by, are_right}
 
 -- ---- one entry
 
-same_bytes : (bytes : List ℕ) → pointwise nat_eq bytes bytes ≡ true
-same_bytes bytes = (bytes_decides bytes bytes).1 refl
-
 module _ (ring : Ring) (me : ReplicaId) (history : ObjectHistory)
     (from : has_party ring (Replica history.replica) ≡ true) (to : has_party ring (Replica me) ≡ true) where
   own_is_right : verifies ring (Replica history.replica) (Replica me) (history_digest history)
@@ -29,7 +26,7 @@ module _ (ring : Ring) (me : ReplicaId) (history : ObjectHistory)
   unfolding verifies
   own_is_right =
       and_from (have_key ring (Replica history.replica) (Replica me)) _ (and_from _ _ from (and_from _ _ to refl))
-      (same_bytes (seal_of ring (Replica history.replica) (Replica me) (history_digest history)))
+      ((bytes_decides (seal_of ring (Replica history.replica) (Replica me) (history_digest history)) _).1 refl)
 
   pub sealed_is_right : is_right ring me (sealed_by ring history) ≡ true
   unfolding is_right authenticator_of

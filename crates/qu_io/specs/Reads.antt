@@ -21,8 +21,3 @@ pub record ReadsFrom (before now : StreamView) (result : Result ℕ Failed) (int
   pub counts : before.faults ≤ now.faults
   pub rises : OnErr result (Rose before now)
   pub stays : IfOk result (λ count. IsCalm before now)
-
--- reads in a row took these bytes
-pub record HasRead (first now : StreamView) (bytes : List ℕ) : Type 0 where
-  pub takes : Consumes first.bytes now.bytes bytes
-  pub counts : first.faults ≤ now.faults

@@ -18,8 +18,3 @@ pub record WritesTo (before now : StreamView) (result : Result ℕ Failed) (piec
   pub counts : before.faults ≤ now.faults
   pub rises : OnErr result (Rose before now)
   pub stays : IfOk result (λ count. now.faults ≡ before.faults)
-
--- writes in a row took these bytes
-pub record HasWritten (first now : StreamView) (bytes : List ℕ) : Type 0 where
-  pub takes : Appends first.bytes now.bytes bytes
-  pub counts : first.faults ≤ now.faults

@@ -1,5 +1,5 @@
 -- What the tests of equal steps decide.
-use Rattle.std.proofs.Common.{◌≡◌, ℕ, true, false, List, Option, None, Some, refl, sym, ap, ◌∙◌, inl, inr}
+use Rattle.std.proofs.Common.{◌≡◌, ℕ, true, false, List, Option, None, Some, refl, sym, ap, inl, inr}
 use Rattle.std.specs.Prelude.{◌==◌, ◌&&◌}
 use Rattle.std.specs.Bool.{Decides}
 use Rattle.std.specs.Cmp.Lexicographic.{pointwise, bytes_decides}
@@ -8,23 +8,21 @@ use Rattle.std.proofs.lemmas.Bool.Decides.{Decides-eqb}
 use Rattle.std.proofs.lemmas.Slice.Eq.{slice_eq-Decides}
 use Rattle.qu_base.specs.declared.party.ClientId.{ClientId}
 use Rattle.qu_base.specs.declared.party.Party.{Party}
+use Rattle.qu_base.proofs.Numbered.{client_is}
 use Rattle.qu_objects.specs.declared.answer.Answer.{Answer}
 use Rattle.qu_objects.specs.declared.op.Op.{Op}
 use Rattle.qu_objects.specs.declared.op.Outcome.{Outcome}
 use Rattle.qu_objects.specs.declared.op.Outcome.TheVariants as outcome
 use Rattle.qu_objects.specs.Alike.{are_same_bytes}
-use Rattle.qu_machine.proofs.Equalities.{client_is, decides_op, decides_answer}
+use Rattle.qu_machine.proofs.Equalities.{decides_op, decides_answer}
 use Rattle.qu_frames.specs.declared.frame.Letter.{Letter}
 use Rattle.qu_frames.specs.declared.input.LetterName.{LetterName}
 use Rattle.qu_frames.specs.declared.input.Input.{Input}
 use Rattle.qu_frames.specs.declared.input.Input.TheVariants.{Frame, Tick, Invoke}
 use Rattle.qu_trace.specs.Faulty.{is_same}
+use Rattle.qu_trace.proofs.Parties.{decides_party}
 use Rattle.qu_replay.specs.declared.kept_step.KeptStep.{KeptStep}
-use Rattle.qu_replay.proofs.Actors.{same_party, same_self}
 use Rattle.qu_journal.specs.Alike.{same_letter_name, same_input, same_letter, same_outcome, same_end, same_step}
-
-decides_party : (a b : Party) → Decides (is_same a b) (a ≡ b)
-decides_party a b = (same_party a b, λ same. ap (λ (it : Party). is_same a it) (sym same) ∙ same_self a)
 
 abbrev name_with : Party → ℕ → ℕ → LetterName
 name_with from ticket place = record { from = from; ticket = ticket; place = place }

@@ -1,17 +1,15 @@
 -- What stands under a key once an item was put in, and that keys rise as before.
 use Rattle.std.proofs.lemmas.Bool.{true≢false, false≢true}
-use Rattle.std.proofs.Common.{◌≡◌, ℕ, ◌+◌, ◌<◌, ◌≤◌, ◌==◌, ◌⊎◌, inl, inr, Bool, true, false, cond, List, [], ◌∷◌, ◌++◌, length, Option, None, Some, refl, ◌∙◌, arith}
+use Rattle.std.proofs.Common.{◌≡◌, ℕ, ◌+◌, ◌<◌, ◌≤◌, ◌==◌, ◌⊎◌, inl, inr, Bool, true, false, cond, List, [], ◌∷◌, ◌++◌, length, None, Some, refl, ◌∙◌, arith}
 use Rattle.std.specs.Prelude.{nat_lt, find, filter, ◌≢◌}
 use Rattle.std.specs.Option.{option_or}
 use Rattle.std.specs.List.{AllByRecursion}
 use Rattle.std.proofs.lemmas.Bool.Decides.{nat_tests}
+use Rattle.qu_base.proofs.EachItem.{each_append, each_kept}
+use Rattle.qu_base.proofs.Items.{or_none}
 use Rattle.qu_kept.specs.Keyed.{item_of, with_item, Rising}
 
 -- ---- what is found in lists that were put together, and in parts of a list
-
-or_none : {X : Type 0} (found : Option X) → option_or found None ≡ found
-or_none (Some item) = refl
-or_none None = refl
 
 found_append : {X : Type 0} (test : X → Bool) (front back : List X)
     → find test (front ++ back) ≡ option_or (find test front) (find test back)
@@ -108,16 +106,6 @@ module _ {X : Type 0} (key : X → ℕ) where
 
 -- ---- what holds of all items
 
-all_filtered : {X : Type 0} (P : X → Type 0) (passes : X → Bool) (items : List X) → AllByRecursion P items
-    → AllByRecursion P (filter passes items)
-all_filtered P passes [] all = tt
-all_filtered P passes (item ∷ items) all =
-    elim (passes item)
-    as (λ (test : Bool). AllByRecursion P (cond test (item ∷ filter passes items) (filter passes items))) [
-      | true ↦ (all.0, all_filtered P passes items all.1)
-      | false ↦ all_filtered P passes items all.1
-    ]
-
 passed_step : {X : Type 0} (P : X → Type 0) (test : Bool) (item : X) (part : List X) → (test ≡ true → P item)
     → AllByRecursion P part → AllByRecursion P (cond test (item ∷ part) part)
 passed_step P true item part means so_far = (means refl, so_far)
@@ -129,11 +117,6 @@ all_passed P passes means [] = tt
 all_passed P passes means (item ∷ items) =
     passed_step P (passes item) item (filter passes items) (means item) (all_passed P passes means items)
 
-all_append : {X : Type 0} (P : X → Type 0) (front back : List X) → AllByRecursion P front → AllByRecursion P back
-    → AllByRecursion P (front ++ back)
-all_append P [] back all others = others
-all_append P (item ∷ front) back all others = (all.0, all_append P front back all.1 others)
-
 pub all_both : {X : Type 0} (P Q R : X → Type 0) → ((item : X) → P item → Q item → R item) → (items : List X)
     → AllByRecursion P items → AllByRecursion Q items → AllByRecursion R items
 all_both P Q R means [] all others = tt
@@ -143,8 +126,8 @@ all_both P Q R means (item ∷ items) all others =
 pub all_with : {X : Type 0} (key : X → ℕ) (P : X → Type 0) (item : X) (items : List X) → P item
     → AllByRecursion P items → AllByRecursion P (with_item key item items)
 all_with key P item items holds all =
-    all_append P _ _ (all_filtered P (λ other. nat_lt (key other) (key item)) items all)
-    (holds, all_filtered P (λ other. nat_lt (key item) (key other)) items all)
+    each_append P _ _ (each_kept P (λ other. nat_lt (key other) (key item)) items all)
+    (holds, each_kept P (λ other. nat_lt (key item) (key other)) items all)
 
 -- ---- rising keys
 
@@ -156,7 +139,7 @@ rising_filtered key passes (item ∷ items) rising =
     elim (passes item)
     as (λ (test : Bool). Rising key (cond test (item ∷ filter passes items) (filter passes items))) [
       | true ↦ (
-        all_filtered (λ other. key item < key other) passes items rising.0,
+        each_kept (λ other. key item < key other) passes items rising.0,
         rising_filtered key passes items rising.1,
       )
       | false ↦ rising_filtered key passes items rising.1
@@ -168,7 +151,7 @@ rising_append : {X : Type 0} (key : X → ℕ) (item : X) (front back : List X) 
 unfolding Rising
 rising_append key item [] back rising lower higher later = (higher, later)
 rising_append key item (first ∷ front) back rising lower higher later = (
-  all_append (λ other. key first < key other) front (item ∷ back) rising.0 (
+  each_append (λ other. key first < key other) front (item ∷ back) rising.0 (
     lower.0,
     all_both (λ other. key item < key other) (λ other. key item < key other) (λ other. key first < key other)
         (λ other above also. below_both (key first) (key item) (key other) lower.0 above) back higher higher,

@@ -9,6 +9,7 @@ use Rattle.qu_base.specs.declared.party.Party.TheVariants as party
 use Rattle.qu_base.specs.Bounds.{replicas}
 use Rattle.qu_base.specs.Format.{AreBytes}
 use Rattle.qu_base.proofs.ThresholdFacts.{replicas_are_few, replicas_are_count}
+use Rattle.qu_base.proofs.EachItem.{each_append}
 use Rattle.qu_frames.specs.declared.frame.Letter.{Letter}
 use Rattle.qu_rows.specs.State.{ReplicaState}
 use Rattle.qu_replica.specs.Step.{replica_step}
@@ -23,7 +24,7 @@ use Rattle.qu_trace.specs.Letters.{letters_of}
 use Rattle.qu_world.specs.Run.{IsRun}
 use Rattle.qu_world.specs.State.{WorldState, kinds_at, letter_of, ring_of}
 use Rattle.qu_world.specs.Step.{world_step}
-use Rattle.qu_world.proofs.Each.{each_append, each_at, each_numbered, set_cases}
+use Rattle.qu_world.proofs.Each.{each_at, each_numbered, set_cases}
 use Rattle.qu_claims.specs.Carried.{offered}
 use Rattle.qu_claims.specs.Times.{world_after}
 use Rattle.qu_runs.proofs.Events.Handing.{hand}

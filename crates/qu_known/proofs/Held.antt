@@ -2,7 +2,7 @@
 use Rattle.std.proofs.Common.{◌≡◌, ℕ, zero, suc, ◌+◌, ◌<◌, ◌≤◌, Bool, true, false, ◌&&◌, ◌||◌, List, [], ◌∷◌, ◌++◌, length, get_or, map, refl, sym, ap, ◌∙◌, arith, inl, inr}
 use Rattle.std.specs.Prelude.{◌==◌, nat_le, nat_lt, slice_get}
 use Rattle.std.specs.List.{list_any}
-use Rattle.std.proofs.lemmas.Bool.{cases_Bool, cases_lt, eqb-true}
+use Rattle.std.proofs.lemmas.Bool.{cases_Bool, cases_lt, eqb-true, and_right}
 use Rattle.std.proofs.lemmas.Bool.Decides.{nat_tests}
 use Rattle.std.proofs.lemmas.List.Folds.{list_any-append}
 use Rattle.qu_base.specs.declared.party.ObjectId.{ObjectId}
@@ -23,13 +23,13 @@ and_or : (e a b : Bool) → ((e && a) || (e && b)) ≡ (e && (a || b))
 and_or true a b = refl
 and_or false a b = refl
 
-and_false : (e : Bool) → (e && false) ≡ false
-and_false true = refl
-and_false false = refl
-
 pub or_false : (e : Bool) → (e || false) ≡ e
 or_false true = refl
 or_false false = refl
+
+pub or_assoc : (a b c : Bool) → ((a || b) || c) ≡ (a || (b || c))
+or_assoc true b c = refl
+or_assoc false b c = refl
 
 at_place : (first place count : ℕ) (held : Bool)
     → (((first == place) && held) || ((nat_le (first + 1) place && nat_lt place ((first + 1) + count)) && held))
@@ -49,7 +49,7 @@ pub is_tracked-undecided : (object other : ObjectId) (candidate : Candidate) (ca
     → is_tracked object candidate (map (undecided other) candidates) ≡ ((other.0 == object.0) && holds candidate
     candidates)
 unfolding is_tracked
-is_tracked-undecided object other candidate [] = sym (and_false (other.0 == object.0))
+is_tracked-undecided object other candidate [] = sym (and_right (other.0 == object.0) false refl)
 is_tracked-undecided object other candidate (first ∷ later) =
     ap (λ (test : Bool). is_tracked_as object candidate (undecided other first) || test)
     (is_tracked-undecided object other candidate later) ∙
@@ -104,8 +104,8 @@ row_accepted objects replica row object candidate few known =
       | inr past ↦
           let none : accepts object candidate replica ≡ false =
           ap (holds candidate) (candidates_past replica.histories object.0 (omega arith)) in
-          ap (λ (test : Bool). (nat_le 0 object.0 && nat_lt object.0 (0 + objects)) && test) none ∙ and_false _
-          ∙ sym none
+          ap (λ (test : Bool). (nat_le 0 object.0 && nat_lt object.0 (0 + objects)) && test) none
+          ∙ and_right _ false refl ∙ sym none
     ]
   where
     within : (place objects : ℕ) (held : Bool) → place < objects

@@ -10,6 +10,7 @@ use Rattle.qu_base.specs.declared.party.ObjectId.{ObjectId}
 use Rattle.qu_base.specs.declared.party.Party.{Party}
 use Rattle.qu_base.specs.declared.party.Party.TheVariants as party
 use Rattle.qu_base.specs.declared.party.ReplicaId.{ReplicaId}
+use Rattle.qu_base.proofs.Numbered.{object_is}
 use Rattle.qu_seal.specs.Keys.{Ring}
 use Rattle.qu_stamp.specs.declared.candidate.Candidate.{Candidate}
 use Rattle.qu_history.specs.declared.sealed.Sealed.{Sealed}
@@ -31,7 +32,7 @@ use Rattle.qu_runs.proofs.Worlds.WorldGrowth.{AcceptsMore}
 use Rattle.qu_known.specs.declared.tracked.Tracked.{Tracked}
 use Rattle.qu_known.specs.Tracked.{is_tracked, undecided}
 use Rattle.qu_known.specs.Known.{ShownRow, Seen, known_on, beyond, with_known, with_shown_row, see_history, see_shown, see_from, see_letters, IsKnown, AreKnown, Learned}
-use Rattle.qu_known.proofs.Held.{is_tracked-undecided, or_false}
+use Rattle.qu_known.proofs.Held.{is_tracked-undecided, or_false, is_tracked-append, or_assoc}
 use Rattle.qu_known.proofs.Replies.{IsSilent, Shows}
 
 -- ---- one of a list is replaced
@@ -156,19 +157,6 @@ slice_get-put [] place item within = absurd (omega arith)
 slice_get-put (first ∷ later) zero item within = refl
 slice_get-put (first ∷ later) (suc place) item within = slice_get-put later place item (omega (arith, within))
 
-object_is : (one other : ObjectId) → one.0 ≡ other.0 → one ≡ other
-object_is one other same = λ i. record { 0 = same i }
-
-tracked_more : (object : ObjectId) (candidate : Candidate) (news more : List Tracked)
-    → is_tracked object candidate (news ++ more)
-    ≡ (is_tracked object candidate news || is_tracked object candidate more)
-unfolding is_tracked
-tracked_more object candidate news more = list_any-append _ news more
-
-either_more : (first second third : Bool) → ((first || second) || third) ≡ (first || (second || third))
-either_more true second third = refl
-either_more false second third = refl
-
 -- a further history, of an object of which it had less
 module _ (old new : ReplicaState) (rows : List ShownRow) (me : ReplicaId) (within : me.0 < length rows)
     (had : ObjectId → List Candidate) (seen : Seen) (told : IsTold old new rows me.0 had seen)
@@ -237,9 +225,9 @@ module _ (old new : ReplicaState) (rows : List ShownRow) (me : ReplicaId) (withi
       → ((accepts other candidate old || is_tracked other candidate seen.1) || held)
       ≡ (accepts other candidate old || is_tracked other candidate (seen.1 ++ news))
   joined other candidate held is =
-      either_more (accepts other candidate old) (is_tracked other candidate seen.1) held
+      or_assoc (accepts other candidate old) (is_tracked other candidate seen.1) held
       ∙ ap (λ (test : Bool). accepts other candidate old || (is_tracked other candidate seen.1 || test)) (sym is)
-      ∙ ap (λ (test : Bool). accepts other candidate old || test) (sym (tracked_more other candidate seen.1 news))
+      ∙ ap (λ (test : Bool). accepts other candidate old || test) (sym (is_tracked-append other candidate seen.1 news))
 
   either_after : (other : ObjectId) (candidate : Candidate) → holds candidate (had_after other)
       ≡ (accepts other candidate old || is_tracked other candidate (seen.1 ++ news))

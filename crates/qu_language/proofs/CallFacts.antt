@@ -1,13 +1,13 @@
 -- The calls of a script for threads are of correct clients of its setup.
 use Rattle.std.proofs.Common.{◌≡◌, ℕ, ◌+◌, Bool, true, false, cond, List, [], ◌∷◌, ◌++◌, length, Result, Ok, Err, refl, subst, IfOk, ◌≤◌}
 use Rattle.std.specs.Prelude.{nat_le, nat_lt, ◌&&◌, codes}
-use Rattle.std.specs.List.{AllByRecursion}
 use Rattle.std.specs.Str.{bytes_eq}
 use Rattle.std.proofs.lemmas.Bool.{leb-true, and_parts}
 use Rattle.std.proofs.lemmas.List.{flat_map_more}
 use Rattle.qu_base.specs.declared.limits.TheConstants.{LAST_CLIENT}
 use Rattle.qu_base.specs.declared.party.ClientId.{ClientId}
 use Rattle.qu_base.specs.declared.party.Party.TheVariants as party
+use Rattle.qu_base.proofs.EachItem.{each_append}
 use Rattle.qu_objects.specs.declared.op.Op.{Op}
 use Rattle.qu_trace.specs.Faulty.{is_faulty}
 use Rattle.qu_trace.specs.declared.trace.Setup.{Setup}
@@ -147,16 +147,11 @@ live_may setup count verb words line is =
 abbrev Stands : Script → Type 0
 Stands script = MayAllCall script.setup (calls_said script.lines)
 
-all_join : {X : Type 0} (P : X → Type 0) (xs ys : List X) → AllByRecursion P xs → AllByRecursion P ys
-    → AllByRecursion P (xs ++ ys)
-all_join P [] ys these those = those
-all_join P (x ∷ xs) ys these those = (these.0, all_join P xs ys these.1 those)
-
 line_stands : (script : Script) (number : ℕ) (line : Line) → Stands script → Callable script.setup line
     → Stands (with_line script number line)
 line_stands script number line stands may =
     subst (MayAllCall script.setup) (calls_more script.lines (number, line))
-    (all_join (λ (call : ClientId × Op). MayCall script.setup call.0) (calls_said script.lines) (call_of line) stands
+    (each_append (λ (call : ClientId × Op). MayCall script.setup call.0) (calls_said script.lines) (call_of line) stands
     may)
 
 none_stand : (setup : Setup) (lines : List (ℕ × Line)) → has_none lines ≡ true → MayAllCall setup (calls_said lines)

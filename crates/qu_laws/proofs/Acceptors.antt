@@ -4,7 +4,7 @@ use Rattle.std.proofs.Common.{◌≡◌, ℕ, zero, suc, ◌+◌, ◌≤◌, Boo
 use Rattle.std.specs.Prelude.{slice_get, count_by, ◌==◌}
 use Rattle.std.specs.List.{AllZip, AllByRecursion}
 use Rattle.std.specs.Option.{option_and_then}
-use Rattle.std.proofs.lemmas.Bool.{cases_Bool, false≢true, cond_both, or_left, or_right, cases_eq, and_parts, leb-true, ltb-true}
+use Rattle.std.proofs.lemmas.Bool.{cases_Bool, false≢true, cond_both, or_left, or_right, and_parts, ltb-true}
 use Rattle.std.proofs.lemmas.List.Sums.{sum_by-cons}
 use Rattle.std.proofs.lemmas.Option.{none-some}
 use Rattle.qu_base.specs.declared.party.ObjectId.{ObjectId}
@@ -22,10 +22,9 @@ use Rattle.qu_claims.specs.Times.{world_after}
 use Rattle.qu_shown.specs.Views.{WasHeld, HeldIfCorrect, EachEntry, AreHeld}
 use Rattle.qu_runs.proofs.Worlds.WorldGrowth.{AcceptsMore, has_more, world_after-grows}
 use Rattle.qu_grounds.proofs.Grounds.{is_base}
-use Rattle.qu_runs.proofs.Small.{same_object}
 use Rattle.qu_history.specs.declared.sealed.Sealed.{Sealed}
 use Rattle.qu_claims.specs.Count.{count, test_at}
-use Rattle.qu_chain.proofs.Counting.{bit, test_at-here}
+use Rattle.qu_chain.proofs.Counting.{bit, test_at-here, count-further}
 use Rattle.qu_history.specs.Culling.{culled, is_right, mac_is_right}
 use Rattle.qu_claims.specs.RunSetting.{setting}
 use Rattle.qu_seal.specs.Keys.{Ring, verifies}
@@ -35,7 +34,9 @@ use Rattle.qu_claims.specs.Setting.{acceptors}
 use Rattle.qu_runs.proofs.Worlds.Settings.{acceptors_counted}
 use Rattle.qu_runs.proofs.Worlds.FewFaults.{either_counted}
 use Rattle.qu_base.specs.Format.{FitsFrom}
+use Rattle.qu_base.proofs.Numbered.{tested_object}
 use Rattle.qu_history.specs.Formats.{entry_form, sealed_entry_form, next_entry, entries_form, set_form, sets_form}
+use Rattle.qu_class.proofs.EntriesFit.{not_below}
 use Rattle.qu_fitting.proofs.FitCulled.{culled-fits}
 
 -- ---- what was held is still accepted
@@ -87,18 +88,6 @@ still_accepts trace count history candidate was held =
 
 -- ---- entries by rising replicas
 
-count_further : (test : ℕ → Bool) (least n : ℕ) → least ≤ n → count least test ≤ count n test
-unfolding count
-count_further test zero zero order = omega arith
-count_further test (suc least) zero order = absurd (omega arith)
-count_further test least (suc n) order =
-    elim (cases_eq least (suc n)) [
-      | inl same ↦ rw same (omega arith)
-      | inr other ↦
-          let before : count least test ≤ count n test = count_further test least n (omega arith) in
-          omega (arith, before)
-    ]
-
 -- the entry's replica is below n, and passes the test where the first holds of its history and the second does not
 pub record CountsIn (n : ℕ) (first second : ObjectHistory → Bool) (test : ℕ → Bool) (sealed : Sealed) : Type 0 where
   pub within : ((sealed.history).replica).0 < n
@@ -112,11 +101,6 @@ bit_either true true test follows = omega arith
 bit_either true false true follows = omega arith
 bit_either true false false follows = absurd (false≢true (follows refl refl))
 
-least_replica : (object : ObjectId) (least : ℕ) (sealed : Sealed) → (sealed_entry_form object least).Fits sealed
-    → least ≤ ((sealed.history).replica).0
-unfolding sealed_entry_form entry_form
-least_replica object least sealed fits = leb-true _ _ (fits.0.1.0.1)
-
 entry_object : (object : ObjectId) (least : ℕ) (sealed : Sealed) → (sealed_entry_form object least).Fits sealed
     → (((sealed.history).object).0 == object.0) ≡ true
 unfolding sealed_entry_form entry_form
@@ -129,12 +113,12 @@ counted_rising : (object : ObjectId) (first second : ObjectHistory → Bool) (n 
     → count_by first (histories entries) + count least test ≤ count_by second (histories entries) + count n test
 unfolding count
 counted_rising object first second n test [] least order fits each =
-    let further : count least test ≤ count n test = count_further test least n order in
+    let further : count least test ≤ count n test = count-further test least n order in
     omega (arith, further)
 counted_rising object first second n test (sealed ∷ later) least order fits each =
     let replica : ℕ = ((sealed.history).replica).0 in
     let below : replica < n = each.0.within in
-    let above : least ≤ replica = least_replica object least sealed fits.0 in
+    let above : least ≤ replica = not_below object least sealed fits.0 in
     let rest : count_by first (histories later) + count (replica + 1) test
     ≤ count_by second (histories later) + count n test =
     counted_rising object first second n test later (replica + 1) (omega arith) fits.1 each.1 in
@@ -142,7 +126,7 @@ counted_rising object first second n test (sealed ∷ later) least order fits ea
     counted_next test replica in
     let here : cond (first sealed.history) 1 0 ≤ cond (second sealed.history) 1 0 + bit (test replica) =
     bit_either (first sealed.history) (second sealed.history) (test replica) (each.0).passes in
-    let before : count least test ≤ count replica test = count_further test least replica above in
+    let before : count least test ≤ count replica test = count-further test least replica above in
     let sum : count_by first (sealed.history ∷ histories later)
     ≡ cond (first sealed.history) 1 0 + count_by first (histories later) =
     sum_by-cons (λ (it : ObjectHistory). cond (first it) 1 0) sealed.history (histories later) in
@@ -205,7 +189,7 @@ module _ (trace : Trace) (time : ℕ) (object : ObjectId) where
     shows_so of least sealed same fits it = record {
       within = it.0;
       passes = passes sealed.history
-          (same_object (sealed.history).object of (entry_object of least sealed fits) ∙ same_object of object same)
+          (tested_object (sealed.history).object of (entry_object of least sealed fits) ∙ tested_object of object same)
           it.0 it.1;
     }
 

@@ -8,6 +8,7 @@ use Rattle.qu_base.specs.Bounds.{AreThresholds, quorum, repair}
 use Rattle.qu_base.specs.declared.party.Digest.{Digest}
 use Rattle.qu_base.specs.declared.party.ObjectId.{ObjectId}
 use Rattle.qu_base.proofs.ThresholdFacts.{are_thresholds}
+use Rattle.qu_base.proofs.Items.{some_found}
 use Rattle.qu_stamp.specs.declared.stamp.Stamp.{Stamp}
 use Rattle.qu_stamp.specs.declared.candidate.Candidate.{Candidate}
 use Rattle.qu_stamp.specs.Stamp.{is_below, same_stamp}
@@ -84,10 +85,6 @@ unfolding IsListed
 names_listed [] object none = none
 names_listed (part ∷ later) object (inl same) = inl same
 names_listed (part ∷ later) object (inr there) = inr (names_listed later object there)
-
-some_of : {X : Type 0} (found : Option X) → is_some found ≡ true → (it : X) × (found ≡ Some it)
-some_of None some = absurd (false≢true some)
-some_of (Some it) some = (it, refl)
 
 -- ---- at an event of a run
 
@@ -312,7 +309,7 @@ module _ (trace : Trace) (is_run : IsRun trace) (have : ArePlain trace) (time : 
           (λ (key : ObjectId × Stamp). not (has_version key.0 key.1 mid.versions)) target of version planned.known
           is_read_one is_method in
           let it : (state : ObjState) × (version_at of version.stamp mid.versions ≡ Some state) =
-          some_of (version_at of version.stamp mid.versions)
+          some_found (version_at of version.stamp mid.versions)
           (not-false (has_version of version.stamp mid.versions) known) in (
             it.0,
             it.1,

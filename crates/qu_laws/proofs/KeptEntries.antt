@@ -1,9 +1,9 @@
 -- What a replica keeps of a request's sets: histories that were held before, where they are of correct replicas,
 -- whoever sent the request. So as many accepted a candidate, with the faulty ones, as the sets show it.
-use Rattle.std.proofs.Common.{◌≡◌, ℕ, ◌+◌, ◌<◌, ◌≤◌, Bool, true, false, not, cond, List, [], ◌∷◌, ◌++◌, length, Some, Ok, refl, sym, ap, subst, ◌∙◌, arith, inl, inr, get_or, Result}
+use Rattle.std.proofs.Common.{◌≡◌, ℕ, ◌+◌, ◌<◌, ◌≤◌, Bool, true, false, cond, List, [], ◌∷◌, ◌++◌, length, Some, Ok, refl, sym, ap, subst, ◌∙◌, arith, inl, inr, get_or, Result}
 use Rattle.std.specs.Prelude.{slice_get, count_by, Contains}
 use Rattle.std.specs.List.{AllByRecursion, flat_map}
-use Rattle.std.proofs.lemmas.Bool.{false≢true}
+use Rattle.std.proofs.lemmas.Bool.{not-true}
 use Rattle.std.proofs.lemmas.List.Elements.{Contains-append_left, Contains-append_right, Contains-append_cases}
 use Rattle.qu_base.specs.declared.party.ObjectId.{ObjectId}
 use Rattle.qu_base.specs.declared.party.ClientId.{ClientId}
@@ -57,13 +57,10 @@ use Rattle.qu_shown.proofs.AskedLetters.{true_to, brought_so}
 use Rattle.qu_shown.proofs.TrueLetters.{IsTrueLetter, ShowsHeld, shows_held}
 use Rattle.qu_shown.proofs.Views.{true_world}
 use Rattle.qu_base.specs.declared.bad_text.BadText.{BadText}
+use Rattle.qu_base.proofs.Items.{later_contains}
 use Rattle.std.proofs.lemmas.List.Concat.{flat_map-cons}
 
 -- ---- what is contained
-
-later_contains : {X : Type 0} (first : X) (later : List X) (item : X) → Contains later item
-    → Contains (first ∷ later) item
-later_contains first later item held = Contains-append_right (first ∷ []) later item held
 
 each_contained : (entries all : List Sealed) → ((sealed : Sealed) → Contains entries sealed → Contains all sealed)
     → AllByRecursion (λ (sealed : Sealed). Contains all sealed) entries
@@ -170,12 +167,8 @@ module _ (trace : Trace) (is_run : IsRun trace) (have : ArePlain trace) (time : 
           (sym (setup_after trace time)) (subst (λ (it : List Sealed). Contains it sealed) (sym entries_are) among))
           (ap (λ (setup : Setup). is_right (ring_of setup) me sealed) (setup_after trace time) ∙ right)
           (ap (λ (setup : Setup). is_faulty setup (party.Replica (sealed.history).replica)) (setup_after trace time)
-          ∙ not_faulty (is_faulty trace.setup (party.Replica (sealed.history).replica)) good)) good,
+          ∙ not-true (is_faulty trace.setup (party.Replica (sealed.history).replica)) good)) good,
     )
-      where
-        not_faulty : (test : Bool) → not test ≡ true → test ≡ false
-        not_faulty true is = absurd (false≢true is)
-        not_faulty false is = refl
 
     -- ---- counting what the culled sets show
 

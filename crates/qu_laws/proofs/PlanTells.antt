@@ -2,10 +2,11 @@
 -- covered.
 use Rattle.std.proofs.Common.{◌≡◌, ◌⊎◌, ◌&&◌, ◌||◌, ℕ, Bool, true, false, cond, List, [], ◌∷◌, find, length, Option, Some, None, Ok, refl, sym, ap, subst, ◌∙◌, inl, inr}
 use Rattle.std.specs.Prelude.{◌==◌, filter_map, option_map}
-use Rattle.std.specs.List.{AllByRecursion, cons_option, list_any}
+use Rattle.std.specs.List.{cons_option, list_any}
 use Rattle.std.proofs.lemmas.Bool.{false≢true, and_parts, and_from, or_cases, or_left, or_right, not-false, eq-eqb}
 use Rattle.std.proofs.lemmas.Option.{none-some, same_Some}
 use Rattle.qu_base.specs.declared.party.ObjectId.{ObjectId}
+use Rattle.qu_base.proofs.Numbered.{tested_object}
 use Rattle.qu_stamp.specs.declared.stamp.Stamp.{Stamp}
 use Rattle.qu_stamp.specs.declared.candidate.Candidate.{Candidate}
 use Rattle.qu_stamp.specs.Stamp.{same_stamp}
@@ -24,11 +25,11 @@ use Rattle.qu_plan.specs.Copying.{is_joined, link_from, is_covered, is_outstandi
 use Rattle.qu_plan.specs.Beside.{reads, is_seen}
 use Rattle.qu_plan.specs.Linking.{Linking}
 use Rattle.qu_plan.proofs.Chosen.{chosen_reads}
-use Rattle.qu_plan.proofs.Copying.{IsCopied, is_plan, plan_copies}
+use Rattle.qu_plan.proofs.Copying.{is_plan, plan_copies}
 use Rattle.qu_rows.proofs.Allowed.{unmapped}
-use Rattle.qu_runs.proofs.Small.{same_object}
 use Rattle.qu_grounds.proofs.Together.{time_in, time_is, listed_named, IsMemberAt, member_at, member_is}
 use Rattle.qu_claims.specs.Setting.{Apart}
+use Rattle.qu_agreed.proofs.CopiesAgree.{copied_class}
 use Rattle.qu_laws.proofs.SetsTell.{is_on, names_more, names_any, IsPicked, picked, none_at}
 
 -- ---- the objects of a plan
@@ -75,7 +76,7 @@ module _ (bounds : ℕ) (sets : List SetOf) (link : Linking) where
       let it : IsPicked (joins_on candidate object) members =
       picked (joins_on candidate object) 0 members rise (joined_any candidate object members names) in
       let both = and_parts (is_joined bounds sets link candidate it.member) ((it.member.0).0 == object.0) it.passes in
-      let same : it.member.0 ≡ object = same_object it.member.0 object both.1 in
+      let same : it.member.0 ≡ object = tested_object it.member.0 object both.1 in
       let joins = and_parts (is_copy (class_in bounds sets it.member.0))
       (is_of_group (chosen it.member.0) (listed_stamp candidate it.member) candidate.group) both.0 in
       let parts = and_parts (same_stamp (chosen it.member.0).stamp (listed_stamp candidate it.member))
@@ -115,19 +116,11 @@ module _ (bounds : ℕ) (sets : List SetOf) (link : Linking) where
       object
       (subst (λ (joint : List (ObjectId × Candidate)). Names joint object) (sym (joint_is target plan is)) names)
 
-  -- all are of class COPY
-  copied_there : (joint : List (ObjectId × Candidate)) → AllByRecursion (IsCopied bounds sets link) joint
-      → (object : ObjectId) → Names joint object → class_in bounds sets object ≡ Copy
-  copied_there [] all object none = absurd none
-  copied_there (part ∷ later) all object (inl same) =
-      ap (class_in bounds sets) (sym same) ∙ (all.0).copy
-  copied_there (part ∷ later) all object (inr there) = copied_there later all.1 object there
-
   pub planned_copy : (target : ObjectId) (plan : CopyPlan) → class_in bounds sets target ≡ Copy
       → plan_of bounds sets link target ≡ Ok plan → (object : ObjectId) → Names plan.joint object
       → class_in bounds sets object ≡ Copy
   planned_copy target plan copy is object names =
-      copied_there plan.joint (plan_copies bounds sets link target plan copy is) object names
+      copied_class bounds sets link plan.joint (plan_copies bounds sets link target plan copy is) object names
 
   -- what they chose is seen
   pub planned_seen : (target object : ObjectId) → class_in bounds sets object ≡ Copy → IsPlannedOn target object
@@ -177,7 +170,7 @@ module _ (bounds : ℕ) (sets : List SetOf) (link : Linking) where
           → Names (cons_option (joint_part bounds sets link candidate member)
           (filter_map (joint_part bounds sets link candidate) later)) object
       by true is given rest =
-          let same : member.0 ≡ object = same_object member.0 object is in
+          let same : member.0 ≡ object = tested_object member.0 object is in
           let times : member.1 ≡ time = same_Some member.1 time given in
           let pair : member ≡ (object, time) = λ i. (same i, times i) in
           subst (λ (test : Bool). Names (cons_option (cond test (Some (member.0, chosen member.0)) None)

@@ -3,19 +3,20 @@
 use Rattle.std.proofs.Common.{◌≡◌, ◌⊎◌, ◌≤◌, ◌+◌, ℕ, Bool, true, false, not, leb, cond, List, [], ◌∷◌, filter, find, length, Option, Some, None, refl, sym, ap, ◌∙◌, inl, inr, arith}
 use Rattle.std.specs.Prelude.{◌==◌, filter_map, nat_le, option_map}
 use Rattle.std.specs.List.{cons_option, list_any}
-use Rattle.std.proofs.lemmas.Bool.{false≢true, cases_Bool, and_parts, and_from, or_cases, or_left, or_right, or_parts, not-true, not_from_false, leb-true, le-leb, eqb-false, eq-eqb, ne_eqb}
+use Rattle.std.proofs.lemmas.Bool.{false≢true, cases_Bool, and_parts, and_from, or_cases, or_left, or_right, not-true, not_from_false, leb-true, le-leb, eqb-false, eq-eqb, ne_eqb}
 use Rattle.std.proofs.lemmas.Option.{none-some, same_Some}
 use Rattle.qu_base.specs.Bounds.{repair}
 use Rattle.qu_base.specs.declared.party.ObjectId.{ObjectId}
+use Rattle.qu_base.proofs.Items.{not_first}
+use Rattle.qu_base.proofs.Numbered.{tested_object}
 use Rattle.qu_stamp.specs.declared.stamp.Stamp.{Stamp}
 use Rattle.qu_stamp.specs.declared.candidate.Candidate.{Candidate}
 use Rattle.qu_stamp.specs.Stamp.{is_below}
 use Rattle.qu_stamp.specs.Candidate.{same, member as member_on}
 use Rattle.qu_stamp.specs.Group.{is_group_size, is_member_from, are_members_from, is_group}
-use Rattle.qu_stamp.proofs.Order.{equal_by_same}
-use Rattle.qu_history.specs.History.{holds}
 use Rattle.qu_history.specs.declared.sets.SetOf.{SetOf}
-use Rattle.qu_history.specs.Sets.{histories, entries_of, order_of, candidates_of, method_at}
+use Rattle.qu_history.specs.Sets.{entries_of, order_of, candidates_of, method_at}
+use Rattle.qu_class.proofs.Tested.{held_passes}
 use Rattle.qu_class.specs.declared.class.Class.TheVariants.{Copy}
 use Rattle.qu_plan.specs.Linked.{is_passed}
 use Rattle.qu_plan.specs.Beside.{is_repairable}
@@ -23,15 +24,15 @@ use Rattle.qu_plan.specs.Chosen.{passes_over, is_passed_at, is_skipped, chosen_o
 use Rattle.qu_class.specs.Class.{is_in_sets, listed_stamp, class_in}
 use Rattle.qu_plan.specs.Copying.{Names}
 use Rattle.qu_plan.specs.Beside.{has_member, is_beside, reads, is_seen}
-use Rattle.qu_plan.specs.Evidence.{if_seen, seen_for, is_read, method_key, read_key, evidence_of}
+use Rattle.qu_plan.specs.Evidence.{seen_for, is_read, method_key, read_key, evidence_of}
 use Rattle.qu_plan.specs.Linking.{Linking}
 use Rattle.qu_class.specs.Rows.{AreWellFormed, MayBeRepaired}
 use Rattle.qu_plan.proofs.Chosen.{any_of_entries, chosen_greatest, chosen_sound}
+use Rattle.qu_plan.proofs.Versions.{no_method}
+use Rattle.qu_plan.proofs.PlanEvidence.{any_seen}
 use Rattle.qu_class.proofs.ClassRows.{copy_has_quorum}
-use Rattle.qu_class.proofs.GroupRule.{copy_is_own}
+use Rattle.qu_class.proofs.GroupRule.{copy_is_own, none_shown}
 use Rattle.qu_class.proofs.OfKind.{held_if_repairable}
-use Rattle.qu_rows.proofs.Allowed.{method_at_none, not_first}
-use Rattle.qu_runs.proofs.Small.{same_object}
 use Rattle.qu_grounds.proofs.Formed.{AreGrouped}
 use Rattle.qu_grounds.proofs.Together.{time_in, time_is, listed_named, IsMemberAt, member_at, member_is}
 use Rattle.qu_claims.specs.Setting.{Apart}
@@ -51,16 +52,6 @@ pub names_more : {X : Type 0} (first : Option (ObjectId × X)) (later : List (Ob
     → Names later object → Names (cons_option first later) object
 names_more None later object there = there
 names_more (Some part) later object there = inr there
-
--- what is held passes
-held_any : (test : Candidate → Bool) (held : Candidate) (candidates : List Candidate)
-    → holds held candidates ≡ true → test held ≡ true → list_any test candidates ≡ true
-held_any test held [] holding passes = absurd (false≢true holding)
-held_any test held (next ∷ later) holding passes =
-    elim (or_cases (same next held) (holds held later) holding) [
-      | inl alike ↦ or_left (test next) (list_any test later) (ap test (equal_by_same next held alike) ∙ passes)
-      | inr there ↦ or_right (test next) (list_any test later) (held_any test held later there passes)
-    ]
 
 -- ---- the members of a group
 
@@ -154,7 +145,7 @@ none_at test (member ∷ later) none object time listed =
         → test member ≡ false → (time_in object later ≡ Some time → test (object, time) ≡ false)
         → test (object, time) ≡ false
     by true is given fails rest =
-        let same : member.0 ≡ object = same_object member.0 object is in
+        let same : member.0 ≡ object = tested_object member.0 object is in
         let times : member.1 ≡ time = same_Some member.1 time given in
         let pair : member ≡ (object, time) = λ i. (same i, times i) in
         ap test (sym pair) ∙ fails
@@ -182,23 +173,13 @@ module _ (bounds : ℕ) (sets : List SetOf) where
       (not_from_false candidate.stamp.barrier may.kind)
       (le-leb (repair bounds) (order_of candidate (entries_of object sets)) may.order)
 
-  -- an object that is not in the sets has no entries
-  no_entries : (members : List SetOf) (object : ObjectId) → is_in_sets members object ≡ false
-      → entries_of object members ≡ []
-  unfolding entries_of
-  no_entries [] object absent = refl
-  no_entries (set ∷ later) object absent =
-      let both = or_parts ((set.object).0 == object.0) (is_in_sets later object) absent in
-      ap (λ (test : Bool). cond test (histories set.entries) (entries_of object later)) both.0
-      ∙ no_entries later object both.1
-
   method_in_sets : (object : ObjectId) (version : Candidate) → method_at bounds (entries_of object sets) ≡ Some version
       → is_in_sets sets object ≡ true
   method_in_sets object version is = elim (cases_Bool (is_in_sets sets object)) [
     | inl there ↦ there
     | inr absent ↦
-        absurd (none-some version (sym (method_at_none bounds)
-        ∙ ap (method_at bounds) (sym (no_entries sets object absent)) ∙ is))
+        absurd (none-some version (sym (no_method bounds)
+        ∙ ap (method_at bounds) (sym (none_shown sets object absent)) ∙ is))
   ]
 
   -- ---- what is read
@@ -210,39 +191,16 @@ module _ (bounds : ℕ) (sets : List SetOf) where
   unfolding reads
   reads_member over other candidate formed shown has =
       sym (any_of_entries (is_beside bounds sets over other) (entries_of over sets))
-      ∙ held_any (is_beside bounds sets over other) candidate (candidates_of (entries_of over sets))
+      ∙ held_passes (is_beside bounds sets over other) candidate (candidates_of (entries_of over sets))
       (held_if_repairable bounds (entries_of over sets) formed candidate (may_of_shown over candidate shown).order)
       (and_from (has_member other candidate) (is_repairable bounds sets over candidate) has shown)
-
-  any_seen : (target over : ObjectId) (test : ObjectId → Bool) (members : List SetOf)
-      → is_in_sets members over ≡ true → is_seen bounds sets target over ≡ true → test over ≡ true
-      → list_any test (filter_map (λ (set : SetOf). if_seen bounds sets target set.object) members) ≡ true
-  any_seen target over test [] there seen passes = absurd (false≢true there)
-  any_seen target over test (set ∷ later) there seen passes =
-      by (is_seen bounds sets target set.object) refl
-      (or_cases ((set.object).0 == over.0) (is_in_sets later over) there)
-      (λ further. any_seen target over test later further seen passes)
-    where
-      rest_seen : List ObjectId
-      rest_seen = filter_map (λ (set : SetOf). if_seen bounds sets target set.object) later
-
-      by : (kept : Bool) → is_seen bounds sets target set.object ≡ kept
-          → (((set.object).0 == over.0) ≡ true) ⊎ (is_in_sets later over ≡ true)
-          → (is_in_sets later over ≡ true → list_any test rest_seen ≡ true)
-          → list_any test (cons_option (cond kept (Some set.object) None) rest_seen) ≡ true
-      by true is (inl here) rest =
-          or_left (test set.object) (list_any test rest_seen) (ap test (same_object set.object over here) ∙ passes)
-      by true is (inr further) rest = or_right (test set.object) (list_any test rest_seen) (rest further)
-      by false is (inl here) rest =
-          absurd (false≢true (sym is ∙ ap (is_seen bounds sets target) (same_object set.object over here) ∙ seen))
-      by false is (inr further) rest = rest further
 
   -- what is read over an object that is seen is read
   pub read_from : (target over other : ObjectId) → is_in_sets sets over ≡ true → is_seen bounds sets target over ≡ true
       → reads bounds sets over other ≡ true → is_read bounds sets target other ≡ true
   unfolding is_read seen_for
   read_from target over other there seen read =
-      any_seen target over (λ (it : ObjectId). reads bounds sets it other) sets there seen read
+      any_seen bounds sets target over (λ (it : ObjectId). reads bounds sets it other) sets there seen read
 
   -- ---- of what is read nothing is missing
 
@@ -253,7 +211,7 @@ module _ (bounds : ℕ) (sets : List SetOf) where
   kept_key missing key [] none object is there given = absurd (false≢true there)
   kept_key missing key (set ∷ later) none object is there given =
       elim (or_cases ((set.object).0 == object.0) (is_in_sets later object) there) [
-        | inl here ↦ first (key set.object) none (ap key (same_object set.object object here) ∙ given)
+        | inl here ↦ first (key set.object) none (ap key (tested_object set.object object here) ∙ given)
         | inr further ↦ kept_key missing key later (rest (key set.object) none) object is further given
       ]
     where

@@ -1,5 +1,5 @@
 -- What a replica accepts in a run, and what its request showed then.
-use Rattle.std.proofs.Common.{◌≡◌, Bool, List, Some, ap, arith, false, length, not, refl, subst, suc, sym, true, ℕ, ◌<◌, ◌≤◌, ◌∙◌, ◌+◌, Option, get_or, None, count_by}
+use Rattle.std.proofs.Common.{◌≡◌, Bool, List, Some, ap, arith, false, length, not, refl, subst, suc, sym, true, ℕ, ◌<◌, ◌≤◌, ◌∙◌, ◌+◌, Option, get_or, count_by}
 use Rattle.qu_accepts.proofs.Accepting.{some_entry, opening_alone, Acceptance, acceptance, added_is, delivered_adds}
 use Rattle.qu_runs.proofs.Worlds.WorldGrowth.{has_more, world_after-grows}
 use Rattle.qu_claims.specs.Grounds.{Accepts}
@@ -12,7 +12,6 @@ use Rattle.qu_chain.specs.Laws.{Sizes}
 use Rattle.qu_claims.specs.Setting.{IsNew, acceptors, IsEstablished}
 use Rattle.qu_world.specs.Run.{IsRun}
 use Rattle.qu_base.specs.declared.party.ObjectId.{ObjectId}
-use Rattle.qu_base.specs.declared.party.Party.{Party}
 use Rattle.qu_mends.specs.Table.{candidates_in}
 use Rattle.qu_trace.specs.declared.trace.Trace.{Trace}
 use Rattle.qu_chain.proofs.Arrival.{Turn, turn_between}
@@ -42,7 +41,6 @@ use Rattle.qu_base.specs.declared.party.Party.TheVariants as party
 use Rattle.qu_frames.specs.declared.frame.Frame.TheVariants as frame
 use Rattle.qu_class.specs.Rows.{AreWellFormed}
 use Rattle.qu_trace.specs.Faulty.{is_good}
-use Rattle.qu_frames.specs.declared.frame.Body.{Body}
 use Rattle.qu_grounds.proofs.Acceptance.{IsFormed}
 use Rattle.qu_grounds.proofs.Formed.{AreGrouped}
 use Rattle.qu_shown.specs.Views.{WasHeld, HeldIfCorrect}
@@ -56,20 +54,6 @@ use Rattle.qu_accepts.proofs.Handling.{mid_candidates, mid_bounds}
 use Rattle.std.proofs.lemmas.Option.{get_or_from_slice_get}
 use Rattle.qu_claims.specs.Handled.{is_of_setup}
 use Rattle.qu_accepts.proofs.Handled.{culls_so}
-
--- ---- letters
-
-abbrev place_of : Party → ℕ
-place_of (party.Replica me) = me.0
-place_of (party.Client me) = 0
-
-pub same_place : (first second : ℕ)
-    → party.Replica (record { 0 = first }) ≡ party.Replica (record { 0 = second }) → first ≡ second
-same_place first second same = ap place_of same
-
-abbrev pub asks_in : Frame → Option Body
-asks_in (frame.Request client number round sets asks mac) = Some asks
-asks_in _ = None
 
 -- ---- sets
 

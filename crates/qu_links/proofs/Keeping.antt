@@ -1,5 +1,6 @@
 -- An act or a copy keeps what links say.
 use Rattle.std.proofs.Common.{◌≡◌, ◌⊎◌, ℕ, ◌≤◌, false, refl, sym, ap, ◌∙◌, subst, arith, inl, inr, Option, None, Some}
+use Rattle.std.proofs.lemmas.Option.{none-some}
 use Rattle.qu_base.specs.declared.party.ObjectId.{ObjectId}
 use Rattle.qu_stamp.specs.declared.stamp.Stamp.{Stamp}
 use Rattle.qu_stamp.specs.declared.candidate.Candidate.{Candidate}
@@ -12,9 +13,6 @@ use Rattle.qu_chain.specs.Early.{Early}
 use Rattle.qu_links.specs.Over.{LinksOver, RestsAt}
 use Rattle.qu_chain.proofs.Ancestry.{some-later, accepted_by_attested, one_candidate}
 use Rattle.qu_links.proofs.Descending.{descends-later}
-
-None≢Some : {X : Type 0} (x : X) → None ≡ Some x → ⊥
-None≢Some x same = grind (arith, same)
 
 module _ (setting : Setting) (early : Early setting) where
   -- what is under the opening candidate is that candidate
@@ -35,12 +33,12 @@ module _ (setting : Setting) (early : Early setting) where
 
   no_link : (link : ObjectId → Option Stamp) → ((other : ObjectId) → link other ≡ None)
       → (other : ObjectId) (stamp : Stamp) → link other ≡ Some stamp → ⊥
-  no_link link empty other stamp same = None≢Some stamp (sym (empty other) ∙ same)
+  no_link link empty other stamp same = none-some stamp (sym (empty other) ∙ same)
 
   no_group : (low : Candidate) → low ≡ opening → (other : ObjectId) (stamp : Stamp)
       → setting.member low other ≡ Some stamp → ⊥
   no_group low same other stamp is_member =
-      None≢Some stamp (sym (early.alone_at_first other)
+      none-some stamp (sym (early.alone_at_first other)
       ∙ ap (λ (it : Candidate). setting.member it other) (sym same) ∙ is_member)
 
   -- the opening version has no links

@@ -8,7 +8,7 @@ use Rattle.std.specs.Cmp.Lexicographic.{pointwise, bytes_decides}
 use Rattle.std.proofs.lemmas.Bool.{false≢true, not-true, and_parts, and_from, not_from_false}
 use Rattle.std.proofs.lemmas.Bool.Decides.{Decides-eqb}
 use Rattle.std.proofs.lemmas.Slice.Eq.{slice_eq-Decides}
-use Rattle.std.proofs.lemmas.List.Folds.{Any-from_list_any, list_any-from_Any}
+use Rattle.std.proofs.lemmas.List.Folds.{Any-from_list_any}
 use Rattle.qu_base.specs.declared.party.ClientId.{ClientId}
 use Rattle.qu_base.specs.declared.party.ObjectId.{ObjectId}
 use Rattle.qu_objects.specs.declared.act.Method.{Method}
@@ -17,6 +17,8 @@ use Rattle.qu_objects.specs.declared.query.Ask.{Ask}
 use Rattle.qu_objects.specs.declared.query.Ask.TheVariants.{Read, Cat, Find, All}
 use Rattle.qu_base.specs.declared.kind.Item.{Item}
 use Rattle.qu_base.specs.declared.kind.Item.TheVariants.{Number, Bytes, Entries}
+use Rattle.qu_base.proofs.Items.{any_contained}
+use Rattle.qu_base.proofs.Numbered.{object_is, client_is}
 use Rattle.qu_objects.specs.declared.answer.Answer.{Answer}
 use Rattle.qu_objects.specs.declared.answer.Answer.TheVariants as answer
 use Rattle.qu_objects.specs.declared.op.Op.{Op}
@@ -126,12 +128,6 @@ decides_item (Entries a) (Entries b) =
     let entries : Decides (pointwise same_named a b) (a ≡ b) = slice_eq-Decides decides_named a b _ refl in
     (λ same. ap (λ (it : List (List ℕ × ℕ)). Entries it) (entries.0 same), λ same. entries.1 (cc))
 
-pub object_is : (a b : ObjectId) → a.0 ≡ b.0 → a ≡ b
-object_is a b same = ap (λ (it : ℕ). (let object : ObjectId = record { 0 = it } in object)) same
-
-pub client_is : (a b : ClientId) → a.0 ≡ b.0 → a ≡ b
-client_is a b same = ap (λ (it : ℕ). (let client : ClientId = record { 0 = it } in client)) same
-
 decides_part : {X : Type 0} (test : X → X → Bool) → ((a b : X) → Decides (test a b) (a ≡ b))
     → (a b : ObjectId × X) → Decides (same_part test a b) (a ≡ b)
 decides_part test decides a b = (
@@ -232,16 +228,12 @@ passes_from_any test all any =
     let one = Any-from_list_any test all any in
     record { found = one.1; of_list = (one.0, one.2, one.3); passes = one.4 }
 
-pub any_from_passes : {X : Type 0} (test : X → Bool) (all : List X) (found : X) → Contains all found
-    → test found ≡ true → list_any test all ≡ true
-any_from_passes test all found held passes = list_any-from_Any test all (held.0, found, held.1, held.2, passes)
-
 pub decides_known : (operations : List OpRecord) (point : Point) → Decides (is_of_operations operations point)
     (IsOfOperations operations point)
 decides_known operations point = (
   λ any.
       let one = passes_from_any (λ (operation : OpRecord). stands operation point) operations any in
       record { operation = one.found; of_list = one.of_list; stands = (decides_stands one.found point).0 one.passes },
-  λ known. any_from_passes (λ (operation : OpRecord). stands operation point) operations known.operation
+  λ known. any_contained (λ (operation : OpRecord). stands operation point) operations known.operation
       known.of_list ((decides_stands known.operation point).1 known.stands),
 )

@@ -5,13 +5,10 @@ use Rattle.std.specs.Bool.{Decides}
 use Rattle.std.specs.List.{position_or_len}
 use Rattle.std.proofs.lemmas.Bool.{false≢true, cases_Bool, cases_lt, lt-ltb, ltb-true}
 use Rattle.std.proofs.lemmas.List.Quantifiers.{position-Some}
-use Rattle.std.proofs.lemmas.Option.{none-some, same_Some, cond_some, slice_get_cases, slice_get_within, get_or_from_slice_get, slice_get_read}
+use Rattle.std.proofs.lemmas.Option.{none-some, same_Some, cond_some, slice_get_cases, get_or_from_slice_get, slice_get_read}
 use Rattle.qu_machine.specs.Fault.{Nowhere, IsFirst}
 
 -- ---- places and members
-
-pub contains_at : {X : Type 0} (all : List X) (at : ℕ) (x : X) → slice_get all at ≡ Some x → Contains all x
-contains_at all at x there = (at, slice_get_within all at x there, get_or_from_slice_get all at x x there)
 
 pub at_contains : {X : Type 0} (all : List X) (x : X) (held : Contains all x) → slice_get all held.0 ≡ Some x
 at_contains all x held = slice_get_read all (length all) held.0 x refl held.1 (sym held.2)

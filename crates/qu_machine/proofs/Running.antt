@@ -9,6 +9,7 @@ use Rattle.std.proofs.lemmas.List.{length-take-le}
 use Rattle.std.proofs.lemmas.List.Sums.{fold_more}
 use Rattle.std.proofs.lemmas.Option.{slice_get_within, slice_get_read, get_or_from_slice_get}
 use Rattle.qu_base.specs.declared.party.ObjectId.{ObjectId}
+use Rattle.qu_base.proofs.Items.{any_contained}
 use Rattle.qu_objects.specs.declared.answer.Answer.{Answer}
 use Rattle.qu_objects.specs.declared.kind.KindName.{KindName}
 use Rattle.qu_objects.specs.declared.kind.Value.{Value}
@@ -25,7 +26,7 @@ use Rattle.qu_machine.specs.Machine.{with_values, values_at}
 use Rattle.qu_machine.specs.Serial.{op_values, values_after, answer_at, Stands}
 use Rattle.qu_machine.specs.Fault.{DiffersAt, TwiceAt}
 use Rattle.qu_machine.specs.PointTests.{stands, agree, has_other_answer, is_answered_otherwise, differs}
-use Rattle.qu_machine.proofs.Equalities.{decides_stands, decides_agree, decides_answer, passes_from_any, any_from_passes}
+use Rattle.qu_machine.proofs.Equalities.{decides_stands, decides_agree, decides_answer, passes_from_any}
 use Rattle.qu_machine.proofs.Firsts.{one_at}
 
 -- ---- values
@@ -92,7 +93,7 @@ decides_differs kinds operations order at point machine there is = (
       },
   λ it.
       let same : it.point ≡ point = one_at order at it.point point it.stands.there there in
-      any_from_passes (λ (operation : OpRecord). is_answered_otherwise operation point machine) operations
+      any_contained (λ (operation : OpRecord). is_answered_otherwise operation point machine) operations
       it.operation it.of_list
       (and_from _ _ ((decides_stands it.operation point).1 (subst (Stands it.operation) same it.stands.stands))
       (answer_other machine it.operation.reply it.reply it.answer it.completes
@@ -126,7 +127,7 @@ decides_twice order at point there = (
       let below : at < length order = slice_get_within order at point there in
       let size : length (take at order) ≡ at = length-take-le at order (omega arith) in
       let before : it.earlier < at = it.before in
-      any_from_passes (λ (first : Point). agree first point) (take at order) it.first (
+      any_contained (λ (first : Point). agree first point) (take at order) it.first (
         it.earlier,
         omega arith,
         get_or-take at order it.earlier it.first before

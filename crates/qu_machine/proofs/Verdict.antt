@@ -4,6 +4,7 @@ use Rattle.std.specs.Prelude.{slice_get, Contains}
 use Rattle.std.specs.Bool.{Decides}
 use Rattle.std.proofs.lemmas.Bool.{false≢true, cases_Bool, cases_order, and_parts, and_from, not-true, not_from_false, false_from_ne_true, or_cases, or_left, or_right}
 use Rattle.std.proofs.lemmas.Bool.Decides.{Decides-ltb}
+use Rattle.qu_base.proofs.Items.{contains_at, any_contained}
 use Rattle.qu_objects.specs.declared.answer.Answer.{Answer}
 use Rattle.qu_objects.specs.declared.kind.KindName.{KindName}
 use Rattle.qu_objects.specs.declared.op.Op.{Op}
@@ -17,8 +18,8 @@ use Rattle.qu_machine.specs.declared.record.Point.{Point}
 use Rattle.qu_machine.specs.Serial.{IsRising, answer_at, Stands, StandsAt, Completes, StandsOnce, IsOfOperations, IsUpdate, Agree, IsSerial}
 use Rattle.qu_machine.specs.Fault.{DiffersAt, IsBeforeReply, IsBetween, IsBeyond, IsOutside, OutsideAt, TwiceAt, AbsentAt, Nowhere, IsFault}
 use Rattle.qu_machine.specs.PointTests.{stands, is_update, is_completed, is_before_reply, is_between, is_misplaced, is_of_operations, is_beyond, is_outside, is_placed, is_absent}
-use Rattle.qu_machine.proofs.Equalities.{decides_stands, decides_answer, decides_known, passes_from_any, any_from_passes}
-use Rattle.qu_machine.proofs.Firsts.{contains_at, at_contains, one_at, DecidesAt}
+use Rattle.qu_machine.proofs.Equalities.{decides_stands, decides_answer, decides_known, passes_from_any}
+use Rattle.qu_machine.proofs.Firsts.{at_contains, one_at, DecidesAt}
 
 -- ---- what a test decides
 
@@ -66,7 +67,7 @@ decides_beyond operations point = (
         stands = (decides_stands one.found point).0 both.0;
         beyond = not_by _ _ (decides_between one.found point.event) both.1;
       },
-  λ it. any_from_passes (λ (operation : OpRecord). is_misplaced operation point) operations it.operation it.of_list
+  λ it. any_contained (λ (operation : OpRecord). is_misplaced operation point) operations it.operation it.of_list
       (and_from _ _ ((decides_stands it.operation point).1 it.stands)
       (by_not _ _ (decides_between it.operation point.event) it.beyond)),
 )
@@ -144,7 +145,7 @@ decides_placed operation order = (
           stands = (decides_stands operation one.found).0 one.passes;
         };
       },
-  λ it. any_from_passes (λ (point : Point). stands operation point) order it.point
+  λ it. any_contained (λ (point : Point). stands operation point) order it.point
       (contains_at order it.at it.point it.stands.there)
       ((decides_stands operation it.point).1 it.stands.stands),
 )

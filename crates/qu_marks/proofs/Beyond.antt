@@ -1,5 +1,5 @@
 -- What is tracked: at the beginning all that is known, and then what is new.
-use Rattle.std.proofs.Common.{◌≡◌, ℕ, Bool, true, false, ◌||◌, cond, List, [], ◌∷◌, ◌++◌, refl, sym, ap, subst, ◌∙◌, inl, inr}
+use Rattle.std.proofs.Common.{◌≡◌, ℕ, Bool, true, false, ◌||◌, cond, List, [], ◌∷◌, ◌++◌, sym, ap, subst, ◌∙◌, inl, inr}
 use Rattle.std.specs.List.{All}
 use Rattle.std.proofs.lemmas.Bool.{cases_Bool, or_left, or_parts}
 use Rattle.std.proofs.lemmas.List.Elements.{All-push}
@@ -10,13 +10,9 @@ use Rattle.qu_runs.proofs.Worlds.Objects.{EachHas}
 use Rattle.qu_known.specs.declared.tracked.Tracked.{Tracked}
 use Rattle.qu_known.specs.Known.{ShownRow, rows_tracked, AreKnown}
 use Rattle.qu_known.specs.Tracked.{is_tracked_as, is_tracked, undecided}
-use Rattle.qu_known.proofs.Held.{is_tracked-append, or_false, rows_accepted}
+use Rattle.qu_known.proofs.Held.{is_tracked-append, or_false, rows_accepted, or_assoc}
 use Rattle.qu_marks.specs.Tracker.{with_tracked, with_all, AreAccepted}
 use Rattle.qu_marks.proofs.Settling.{is_of_equal}
-
-or_assoc : (a b c : Bool) → ((a || b) || c) ≡ (a || (b || c))
-or_assoc true b c = refl
-or_assoc false b c = refl
 
 -- ---- what is tracked
 

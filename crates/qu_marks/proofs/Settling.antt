@@ -11,13 +11,13 @@ use Rattle.std.proofs.lemmas.List.Quantifiers.{position-Some}
 use Rattle.std.proofs.lemmas.List.Sums.{sum_by-set}
 use Rattle.std.proofs.lemmas.Option.{none-some}
 use Rattle.qu_base.specs.declared.party.ObjectId.{ObjectId}
+use Rattle.qu_base.proofs.Numbered.{tested_object}
 use Rattle.qu_stamp.specs.declared.candidate.Candidate.{Candidate}
 use Rattle.qu_stamp.specs.Candidate.{same}
 use Rattle.qu_stamp.specs.Stamp.{same_stamp}
 use Rattle.qu_stamp.proofs.Order.{same-self, same_stamp-self, equal_by_same, equal_by_same_stamp}
 use Rattle.qu_world.specs.State.{WorldState}
 use Rattle.qu_claims.specs.Accepted.{is_accepted}
-use Rattle.qu_runs.proofs.Small.{same_object}
 use Rattle.qu_known.specs.declared.tracked.Tracked.{Tracked}
 use Rattle.qu_known.specs.Tracked.{is_tracked_as, is_tracked}
 use Rattle.qu_marks.specs.Tracker.{is_established, IsDecidedIn, is_child, is_next, SettlesTo, IsSettled, IsDecidedMark, AreAccepted}
@@ -34,7 +34,7 @@ pub is_of_equal : (object : ObjectId) (candidate : Candidate) (tracked : Tracked
 is_of_equal object candidate tracked it =
     let parts : (((tracked.object).0 == object.0) ≡ true) × (same tracked.candidate candidate ≡ true) =
     and_parts _ _ it in
-    (same_object tracked.object object parts.0, equal_by_same tracked.candidate candidate parts.1)
+    (tested_object tracked.object object parts.0, equal_by_same tracked.candidate candidate parts.1)
 
 pub is_tracked_at : (all : List Tracked) (place : ℕ) (default : Tracked) → place < length all
     → is_tracked (get_or all place default).object (get_or all place default).candidate all ≡ true
@@ -79,7 +79,7 @@ child_decides world tracked child rests sound accepted =
     × (same_stamp child.candidate.prior tracked.candidate.stamp ≡ true) = and_parts _ _ parts.1 in
     let decided : IsDecidedIn world tracked.object child.candidate =
     subst (λ (object : ObjectId). IsDecidedIn world object child.candidate)
-    (same_object child.object tracked.object same.0)
+    (tested_object child.object tracked.object same.0)
     (sound_is_decided world child.object child.candidate child.decided parts.0 sound) in
     IsDecidedIn.as_prior tracked.candidate child.candidate decided
     (equal_by_same_stamp child.candidate.prior tracked.candidate.stamp same.1) accepted

@@ -1,14 +1,13 @@
 -- The objects that are mended with the target: they differ, and the sets show them.
-use Rattle.std.proofs.Common.{◌≡◌, ℕ, ◌+◌, ◌<◌, ◌≤◌, Bool, true, false, not, cond, List, [], ◌∷◌, map, None, Some, Result, Ok, Err, refl, sym, ap, subst, ◌∙◌, arith, length}
-use Rattle.std.specs.Prelude.{find, nat_le, option_map}
+use Rattle.std.proofs.Common.{◌≡◌, ℕ, ◌+◌, ◌<◌, ◌≤◌, Bool, true, false, cond, List, [], ◌∷◌, map, None, Result, Ok, Err, refl, sym, ap, subst, ◌∙◌, arith, length}
 use Rattle.std.specs.List.{AllByRecursion, list_all}
-use Rattle.std.proofs.lemmas.Bool.{and_parts, leb-true}
-use Rattle.std.proofs.lemmas.Option.{none-some}
+use Rattle.std.proofs.lemmas.Bool.{and_parts}
 use Rattle.qu_base.specs.declared.party.ObjectId.{ObjectId}
+use Rattle.qu_base.proofs.Items.{no_item}
 use Rattle.qu_stamp.specs.declared.candidate.Candidate.{Candidate}
 use Rattle.qu_stamp.specs.Stamp.{same_stamp}
 use Rattle.qu_stamp.specs.Group.{is_group_size, is_member_from, are_members_from, is_group, same_group}
-use Rattle.qu_stamp.proofs.Groups.{decides_group}
+use Rattle.qu_stamp.proofs.Groups.{decides_group, member_from}
 use Rattle.qu_stamp.proofs.Order.{equal_by_same_stamp}
 use Rattle.qu_history.specs.declared.sets.SetOf.{SetOf}
 use Rattle.qu_history.specs.Sets.{entries_of, latest_of}
@@ -17,12 +16,12 @@ use Rattle.qu_class.specs.declared.class.Class.TheVariants.{Method, InlineMethod
 use Rattle.qu_plan.specs.declared.plan.CopyPlan.{CopyPlan}
 use Rattle.qu_plan.specs.declared.plan.PlanFail.{PlanFail}
 use Rattle.qu_plan.specs.declared.plan.PlanFail.TheVariants as why
-use Rattle.qu_class.specs.Class.{is_latest, is_in_sets, listed_stamp, agrees, first_absent, all_agree, class_of, with_members, class_in}
+use Rattle.qu_class.specs.Class.{is_latest, listed_stamp, agrees, first_absent, all_agree, class_of, with_members, class_in}
 use Rattle.qu_plan.specs.Copying.{plan_of}
 use Rattle.qu_plan.specs.Linking.{Linking}
 use Rattle.qu_class.specs.Repairable.{object_base}
 use Rattle.qu_class.specs.Rows.{AllShown}
-use Rattle.qu_class.proofs.GroupRule.{inline_by, copy_in_sets}
+use Rattle.qu_class.proofs.GroupRule.{inline_by, copy_in_sets, all_shown}
 use Rattle.qu_plan.proofs.Copying.{IsCopied, plan_copies}
 use Rattle.qu_kept.specs.declared.course.Course.{Course}
 use Rattle.qu_kept.specs.declared.remedy.Remedy.{Remedy}
@@ -46,9 +45,6 @@ AreOf [] (mended ∷ later) = ⊥
 AreOf (member ∷ group) [] = ⊥
 AreOf (member ∷ group) (mended ∷ later) = (mended.0 ≡ member.0) × AreOf group later
 
-at_least : (least : ℕ) (member : ObjectId × ℕ) → is_member_from least member ≡ true → least ≤ (member.0).0
-at_least least member is = leb-true least (member.0).0 (and_parts (nat_le least (member.0).0) _ is).0
-
 members_are_others : (least : ℕ) (group : List (ObjectId × ℕ)) → are_members_from least group ≡ true
     → (object : ObjectId) → object.0 < least → (members : List (ObjectId × Remedy)) → AreOf group members
     → AreOthers object members
@@ -58,7 +54,7 @@ members_are_others least [] rise object below (mended ∷ more) of = absurd of
 members_are_others least (member ∷ later) rise object below [] of = absurd of
 members_are_others least (member ∷ later) rise object below (mended ∷ more) of =
     let both = and_parts (is_member_from least member) (are_members_from ((member.0).0 + 1) later) rise in
-    let from : least ≤ (member.0).0 = at_least least member both.0 in (
+    let from : least ≤ (member.0).0 = member_from least member both.0 in (
       (λ same. let equal : (member.0).0 ≡ object.0 = ap (λ (it : ObjectId). it.0) (sym of.0 ∙ same)
           in omega (arith, equal, from, below)),
       members_are_others ((member.0).0 + 1) later both.1 object (omega (arith, from, below)) more of.1,
@@ -112,18 +108,6 @@ lists_by [] members true of = tt
 lists_by (member ∷ later) members true of = of
 
 -- ---- the sets show them
-
-all_in_sets : (sets : List SetOf) (group : List (ObjectId × ℕ)) → first_absent sets group ≡ None → AllShown sets group
-all_in_sets sets [] none = tt
-all_in_sets sets (member ∷ later) none =
-    by_test (is_in_sets sets member.0) refl none (all_in_sets sets later)
-  where
-    by_test : (shown : Bool) → is_in_sets sets member.0 ≡ shown
-        → option_map (λ (it : ObjectId × ℕ). it.0)
-        (cond (not shown) (Some member) (find (λ (it : ObjectId × ℕ). not (is_in_sets sets it.0)) later)) ≡ None
-        → (first_absent sets later ≡ None → AllShown sets later) → AllShown sets (member ∷ later)
-    by_test true shown given rest = (shown, rest given)
-    by_test false absent given rest = absurd (none-some member.0 (sym given))
 
 module _ (bounds : ℕ) (sets : List SetOf) where
   -- a candidate that is added as it is: all members are shown, and agree
@@ -214,7 +198,7 @@ module _ (bounds : ℕ) (sets : List SetOf) where
             (shown_of candidate.group);
         plain = shown_plain candidate.group;
         shown = shown_by candidate.group (is_group candidate.group)
-            (all_in_sets sets candidate.group (inline_joined target candidate is).0);
+            (all_shown sets candidate.group (inline_joined target candidate is).0);
       }
   course_is link target Copy is = copy_is link target is (plan_of bounds sets link target) refl
   course_is link target (InlineBarrier candidate) is = single _
@@ -256,15 +240,12 @@ module _ (bounds : ℕ) (sets : List SetOf) (candidate : Candidate) where
       let both = and_parts (member_agrees member) (list_all member_agrees later) test in
       (shown_with member both.0, all_shown_with later both.1)
 
-no_member : {X : Type 0} (item : X) (items : List X) → [] ≡ item ∷ items → ⊥
-no_member item items same = omega (arith, ap length same)
+pub whole_is : (group : List (ObjectId × ℕ)) (test : Bool) (member : ObjectId × ℕ) (later : List (ObjectId × ℕ))
+    → cond test group [] ≡ member ∷ later → group ≡ member ∷ later
+whole_is group true member later is = is
+whole_is group false member later is = absurd (no_item member later is)
 
 module _ (bounds : ℕ) (sets : List SetOf) where
-  whole_is : (group : List (ObjectId × ℕ)) (test : Bool) (member : ObjectId × ℕ) (later : List (ObjectId × ℕ))
-      → cond test group [] ≡ member ∷ later → group ≡ member ∷ later
-  whole_is group true member later is = is
-  whole_is group false member later is = absurd (no_member member later is)
-
   -- the members of the group that is added as it is agree
   pub group_agrees : (object : ObjectId) (candidate : Candidate) (member : ObjectId × ℕ) (later : List (ObjectId × ℕ))
       → class_in bounds sets object ≡ InlineMethod candidate → whole_group candidate.group ≡ member ∷ later

@@ -5,6 +5,7 @@ use Rattle.std.specs.List.{AllByRecursion}
 use Rattle.std.proofs.lemmas.Bool.{eqb-true}
 use Rattle.std.proofs.lemmas.List.Elements.{recursion_from_All}
 use Rattle.qu_base.specs.declared.party.ObjectId.{ObjectId}
+use Rattle.qu_base.proofs.Numbered.{object_is}
 use Rattle.qu_stamp.specs.declared.candidate.Candidate.{Candidate}
 use Rattle.qu_history.specs.History.{ObjectHistory}
 use Rattle.qu_history.specs.declared.sets.SetOf.{SetOf}
@@ -15,7 +16,6 @@ use Rattle.qu_plan.specs.declared.plan.CopyPlan.{CopyPlan}
 use Rattle.qu_plan.specs.declared.plan.PlanFail.{PlanFail}
 use Rattle.qu_class.specs.Rows.{MayBeRepaired, IsClassIn}
 use Rattle.qu_class.proofs.ClassRows.{HasMethod}
-use Rattle.qu_plan.proofs.Versions.{object_is}
 use Rattle.qu_kept.specs.declared.course.Course.{Course}
 use Rattle.qu_kept.specs.Remedy.{copied_at, copy_of}
 use Rattle.qu_mends.specs.Remedy.{copy_course, course_by, IsGrounded}

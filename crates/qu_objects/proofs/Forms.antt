@@ -6,7 +6,7 @@ use Rattle.std.proofs.lemmas.Bool.Decides.{nat_tests}
 use Rattle.std.specs.Int.{w8}
 use Rattle.qu_base.specs.declared.bad_text.Why.TheVariants.{Range, Order}
 use Rattle.qu_base.specs.declared.party.ObjectId.{ObjectId}
-use Rattle.qu_base.specs.Format.{object_form, Format, number, below, tested, made, either, IsExact}
+use Rattle.qu_base.specs.Format.{object_form, Format, number, below, tested, made, IsExact}
 use Rattle.qu_base.proofs.Formats.{some_is, object-exact, wide8, number-exact, both-exact, tested-exact, made-exact, either-exact, nothing-exact, counted-exact, tagged-exact}
 use Rattle.qu_objects.specs.declared.act.Method.{Method}
 use Rattle.qu_objects.specs.declared.act.Method.TheVariants.{Add, Take, Put, Append, Link, Unlink}
@@ -78,22 +78,17 @@ unlink_back (Unlink other) name is = cc
 pair-exact : IsExact entry_pair
 pair-exact = both-exact name_form (λ name. word_form) name-exact (λ name fits. word-exact)
 
--- one of two formats that are exact
-one-exact : {V : Type 0} (test : Bool) (first second : Format V) → IsExact first → IsExact second
-    → IsExact (either test first second)
-one-exact test first second one other = either-exact test first second one other
-
 body-exact : (code : ℕ) → IsExact (method_body code)
 body-exact code =
-    one-exact (code == 1) _ _ (made-exact Add added word_form word-exact (λ more fits. refl)
+    either-exact (code == 1) _ _ (made-exact Add added word_form word-exact (λ more fits. refl)
     (λ method more fits is. added_back method more is))
-    (one-exact (code == 2) _ _ (made-exact Take taken word_form word-exact (λ fewer fits. refl)
+    (either-exact (code == 2) _ _ (made-exact Take taken word_form word-exact (λ fewer fits. refl)
     (λ method fewer fits is. taken_back method fewer is))
-    (one-exact (code == 3) _ _ (made-exact Put put_there content_form content-exact (λ content fits. refl)
+    (either-exact (code == 3) _ _ (made-exact Put put_there content_form content-exact (λ content fits. refl)
     (λ method content fits is. put_back method content is))
-    (one-exact (code == 4) _ _ (made-exact Append appended content_form content-exact (λ more fits. refl)
+    (either-exact (code == 4) _ _ (made-exact Append appended content_form content-exact (λ more fits. refl)
     (λ method more fits is. append_back method more is))
-    (one-exact (code == 5) _ _ (made-exact link_to linked entry_pair pair-exact (λ entry fits. refl)
+    (either-exact (code == 5) _ _ (made-exact link_to linked entry_pair pair-exact (λ entry fits. refl)
     (λ method entry fits is. link_back method entry is))
     (made-exact Unlink unlinked name_form name-exact (λ name fits. refl)
     (λ method name fits is. unlink_back method name is))))))
@@ -155,8 +150,8 @@ find_back All name is = absurd cc
 
 ask_body-exact : (code : ℕ) → IsExact (ask_body code)
 ask_body-exact code =
-    one-exact (code == 1) _ _ (nothing-exact Read) (one-exact (code == 2) _ _ (nothing-exact Cat)
-    (one-exact (code == 3) _ _ (made-exact Find name_asked name_form name-exact (λ name fits. refl)
+    either-exact (code == 1) _ _ (nothing-exact Read) (either-exact (code == 2) _ _ (nothing-exact Cat)
+    (either-exact (code == 3) _ _ (made-exact Find name_asked name_form name-exact (λ name fits. refl)
     (λ ask name fits is. find_back ask name is))
     (nothing-exact All)))
 
@@ -193,9 +188,9 @@ entries_back (Entries other) entries is = cc
 
 item_body-exact : (code : ℕ) → IsExact (item_body code)
 item_body-exact code =
-    one-exact (code == 1) _ _ (made-exact Number item_number word_form word-exact (λ value fits. refl)
+    either-exact (code == 1) _ _ (made-exact Number item_number word_form word-exact (λ value fits. refl)
     (λ item value fits is. number_back item value is))
-    (one-exact (code == 2) _ _ (made-exact Bytes item_bytes content_form content-exact (λ content fits. refl)
+    (either-exact (code == 2) _ _ (made-exact Bytes item_bytes content_form content-exact (λ content fits. refl)
     (λ item content fits is. bytes_back item content is))
     (made-exact Entries item_entries (listing_form any_name) (listing-exact any_name) (λ entries fits. refl)
     (λ item entries fits is. entries_back item entries is)))

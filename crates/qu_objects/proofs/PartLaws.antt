@@ -4,7 +4,9 @@ use Rattle.std.specs.Prelude.{IsTrue, nat_le}
 use Rattle.std.proofs.lemmas.Bool.{and_parts, and_left, leb-true, lt-ltb, ltb-true}
 use Rattle.std.proofs.lemmas.List.{drop_more, drop_all}
 use Rattle.qu_base.specs.declared.party.ObjectId.{ObjectId}
+use Rattle.qu_objects.specs.declared.act.Method.{Method}
 use Rattle.qu_objects.specs.declared.limits.TheConstants.{MOST_PARTS}
+use Rattle.qu_objects.specs.declared.op.Op.TheVariants.{Act}
 use Rattle.qu_objects.specs.Formats.{is_after}
 use Rattle.qu_objects.specs.Parts.{is_object_from, are_objects_from, is_parts_count, are_parts}
 
@@ -22,6 +24,10 @@ parts_are parts is =
 -- their positions fit an answer
 pub few_parts : {X : Type 0} (parts : List (ObjectId × X)) → IsTrue (are_parts parts) → length parts ≤ MOST_PARTS
 few_parts parts is = (parts_are parts is).few
+
+-- equal acts have equal parts
+pub same_parts : (parts others : List (ObjectId × Method)) → Act parts ≡ Act others → parts ≡ others
+same_parts parts others same = cc
 
 -- ---- the object of a part, and the one before it
 

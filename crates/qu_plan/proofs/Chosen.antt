@@ -2,18 +2,19 @@
 use Rattle.std.proofs.Common.{◌≡◌, ◌≤◌, ◌⊎◌, ◌||◌, ℕ, Bool, true, false, not, leb, List, [], ◌∷◌, filter, Option, length, refl, sym, ap, ◌∙◌, inl, inr, arith}
 use Rattle.std.specs.Prelude.{unwrap_or}
 use Rattle.std.specs.List.{flat_map, list_any}
-use Rattle.std.proofs.lemmas.Bool.{false≢true, cases_Bool, and_parts, and_from, or_cases, or_left, or_right, not-true, not_from_false, le-leb, leb-true}
+use Rattle.std.proofs.lemmas.Bool.{false≢true, cases_Bool, and_parts, and_from, not-true, not_from_false, le-leb, leb-true}
 use Rattle.std.proofs.lemmas.List.Folds.{list_any-append}
 use Rattle.qu_base.specs.Bounds.{quorum, repair}
 use Rattle.qu_base.specs.declared.party.ObjectId.{ObjectId}
 use Rattle.qu_stamp.specs.declared.candidate.Candidate.{Candidate}
-use Rattle.qu_stamp.specs.Candidate.{opening, same}
+use Rattle.qu_stamp.specs.Candidate.{opening}
 use Rattle.qu_stamp.specs.Stamp.{is_below}
-use Rattle.qu_stamp.proofs.Order.{equal_by_same, is_before_by_stamp}
+use Rattle.qu_stamp.proofs.Order.{is_before_by_stamp}
 use Rattle.qu_history.specs.History.{ObjectHistory, holds}
 use Rattle.qu_history.specs.Sets.{entries_of, order_of, candidates_of, greatest}
 use Rattle.qu_history.specs.declared.sets.SetOf.{SetOf}
 use Rattle.qu_history.proofs.Greatest.{greatest_cases, holds-filter, holds_in_filter}
+use Rattle.qu_class.proofs.Tested.{held_passes}
 use Rattle.qu_plan.specs.Beside.{is_repairable}
 use Rattle.qu_plan.specs.Chosen.{is_skipped, may_be_chosen, greatest_chosen, chosen_on}
 use Rattle.qu_plan.specs.Beside.{has_member, is_beside, reads}
@@ -30,16 +31,6 @@ any_of_entries test [] = refl
 any_of_entries test (entry ∷ later) =
     list_any-append test entry.candidates (flat_map (λ (it : ObjectHistory). it.candidates) later)
     ∙ ap (λ (rest : Bool). list_any test entry.candidates || rest) (any_of_entries test later)
-
--- what is held passes
-held_passes : (test : Candidate → Bool) (held : Candidate) (candidates : List Candidate)
-    → holds held candidates ≡ true → test held ≡ true → list_any test candidates ≡ true
-held_passes test held [] holding passes = absurd (false≢true holding)
-held_passes test held (next ∷ later) holding passes =
-    elim (or_cases (same next held) (holds held later) holding) [
-      | inl alike ↦ or_left (test next) (list_any test later) (ap test (equal_by_same next held alike) ∙ passes)
-      | inr there ↦ or_right (test next) (list_any test later) (held_passes test held later there passes)
-    ]
 
 module _ (bounds : ℕ) (sets : List SetOf) (link : Linking) (object : ObjectId) where
   abbrev entries : List ObjectHistory

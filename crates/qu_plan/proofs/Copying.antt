@@ -1,12 +1,12 @@
 -- What a plan copies, and that an object has no part in two plans.
-use Rattle.std.proofs.Common.{◌≡◌, ◌⊎◌, ◌&&◌, ℕ, Bool, true, false, cond, List, [], ◌∷◌, find, Option, Some, None, Ok, Err, length, refl, sym, ap, subst, ◌∙◌, inl, inr, arith}
+use Rattle.std.proofs.Common.{◌≡◌, ◌⊎◌, ◌&&◌, ℕ, Bool, true, false, cond, List, [], ◌∷◌, find, Option, Some, None, Ok, Err, refl, sym, ap, subst, ◌∙◌, inl, inr}
 use Rattle.std.specs.Prelude.{filter_map}
 use Rattle.std.specs.List.{All, AllByRecursion, cons_option}
 use Rattle.std.specs.Option.{option_map}
 use Rattle.std.proofs.lemmas.Bool.{false≢true, and_parts}
-use Rattle.std.proofs.lemmas.Grind.{common_steps}
-use Rattle.std.proofs.lemmas.List.Elements.{recursion_from_All, All-from_recursion, filter_map-append}
+use Rattle.std.proofs.lemmas.List.Elements.{recursion_from_All, All-from_recursion}
 use Rattle.qu_base.specs.declared.party.ObjectId.{ObjectId}
+use Rattle.qu_base.proofs.Items.{no_item}
 use Rattle.qu_stamp.specs.declared.stamp.Stamp.{Stamp}
 use Rattle.qu_stamp.specs.declared.candidate.Candidate.{Candidate}
 use Rattle.qu_stamp.specs.Stamp.{same_stamp}
@@ -28,11 +28,6 @@ use Rattle.qu_class.specs.Rows.{AreWellFormed, MayBeRepaired}
 use Rattle.qu_plan.proofs.Chosen.{chosen_sound}
 use Rattle.qu_class.proofs.ClassRows.{copy_has_quorum}
 use Rattle.qu_class.proofs.GroupRule.{copy_is_own}
-
-pub ruleset keeping_parts = (common_steps, filter_map-append)
-
-no_member : {X : Type 0} (item : X) (items : List X) → [] ≡ item ∷ items → ⊥
-no_member item items same = omega (arith, ap length same)
 
 pub copy_class : (class : Class) → is_copy class ≡ true → class ≡ Copy
 copy_class (Method candidate) test = absurd (false≢true test)
@@ -199,7 +194,7 @@ module _ (bounds : ℕ) (sets : List SetOf) (link : Linking) where
       → (chosen target).group ≡ [] → target ≡ object → (chosen second).group ≡ member ∷ later
       → IsJoined (chosen second) object (chosen object) → ⊥
   none_joins target second object member later none same is it =
-      no_member member later (sym none ∙ ap (λ (one : ObjectId). (chosen one).group) same ∙ it.group ∙ is)
+      no_item member later (sym none ∙ ap (λ (one : ObjectId). (chosen one).group) same ∙ it.group ∙ is)
 
   -- where an object is in both lists, they are one
   lists_same : (target second object : ObjectId) → IsPart target (chosen target) object

@@ -8,6 +8,7 @@ use Rattle.std.proofs.lemmas.List.Elements.{filter_map-append}
 use Rattle.std.proofs.lemmas.List.Folds.{find-append}
 use Rattle.std.proofs.lemmas.Option.{none-some}
 use Rattle.qu_base.specs.declared.party.ObjectId.{ObjectId}
+use Rattle.qu_base.proofs.Items.{not_first}
 use Rattle.qu_stamp.specs.declared.candidate.Candidate.{Candidate}
 use Rattle.qu_history.specs.declared.sets.SetOf.{SetOf}
 use Rattle.qu_plan.specs.Chosen.{chosen_on}
@@ -15,11 +16,6 @@ use Rattle.qu_plan.specs.Copying.{is_joined, is_covered, is_outstanding, joint_p
 use Rattle.qu_plan.specs.Linking.{Linking}
 
 module _ {X : Type 0} (test : X → Bool) where
-  none_first : (here : Bool) (item : X) (rest : Option X) → cond here (Some item) rest ≡ None
-      → (here ≡ false) × (rest ≡ None)
-  none_first true item rest is = absurd (none-some item (sym is))
-  none_first false item rest is = (refl, is)
-
   -- the first that passes, where none before it does
   pub found_here : (items : List X) (index : ℕ) (default : X) → find test (take index items) ≡ None
       → index < length items → test (get_or items index default) ≡ true
@@ -29,7 +25,7 @@ module _ {X : Type 0} (test : X → Bool) where
       ap (λ (it : Bool). cond it (Some first) (find test later)) passes
   found_here (first ∷ later) (suc index) default none within passes =
       let rest : (test first ≡ false) × (find test (take index later) ≡ None) =
-      none_first (test first) first (find test (take index later)) none in
+      not_first (test first) first (find test (take index later)) none in
       ap (λ (it : Bool). cond it (Some first) (find test later)) rest.0
       ∙ found_here later index default rest.1 (omega (arith, within)) passes
 

@@ -8,6 +8,7 @@ use Rattle.std.proofs.lemmas.Grind.{common_steps}
 use Rattle.std.proofs.lemmas.List.Elements.{filter_map-append}
 use Rattle.std.proofs.lemmas.Option.{none-some}
 use Rattle.qu_base.specs.declared.party.ObjectId.{ObjectId}
+use Rattle.qu_base.proofs.Numbered.{object_is}
 use Rattle.qu_stamp.specs.declared.stamp.Stamp.{Stamp}
 use Rattle.qu_stamp.specs.Stamp.{is_below}
 use Rattle.qu_stamp.specs.declared.candidate.Candidate.{Candidate}
@@ -27,7 +28,7 @@ use Rattle.qu_plan.specs.Beside.{has_member, is_beside, reads, is_seen}
 use Rattle.qu_plan.specs.Evidence.{if_seen, seen_for, is_read, method_key, read_key, evidence_of, AreAlike}
 use Rattle.qu_plan.specs.Linking.{Linking}
 use Rattle.qu_plan.proofs.Chosen.{any_of_entries, chosen_reads}
-use Rattle.qu_plan.proofs.Versions.{object_is, shown_in, no_method}
+use Rattle.qu_plan.proofs.Versions.{shown_in, no_method}
 
 pub ruleset keeping_keys = (common_steps, filter_map-append)
 
@@ -43,6 +44,33 @@ listed_first member later =
 listed_later : (member : ObjectId × ℕ) (later : List (ObjectId × ℕ)) (object : ObjectId) → lists later object ≡ true
     → lists (member ∷ later) object ≡ true
 listed_later member later object listed = or_right ((member.0).0 == object.0) (lists later object) listed
+
+module _ (bounds : ℕ) (sets : List SetOf) where
+  -- a test of an object of the sets that is seen
+  pub any_seen : (target over : ObjectId) (test : ObjectId → Bool) (members : List SetOf)
+      → is_in_sets members over ≡ true → is_seen bounds sets target over ≡ true → test over ≡ true
+      → list_any test (filter_map (λ (set : SetOf). if_seen bounds sets target set.object) members) ≡ true
+  any_seen target over test [] there seen passes = absurd (false≢true there)
+  any_seen target over test (set ∷ later) there seen passes =
+      by (is_seen bounds sets target set.object) refl
+      (or_cases ((set.object).0 == over.0) (is_in_sets later over) there)
+      (λ behind. any_seen target over test later behind seen passes)
+    where
+      rest_seen : List ObjectId
+      rest_seen = filter_map (λ (set : SetOf). if_seen bounds sets target set.object) later
+
+      same : ((set.object).0 == over.0) ≡ true → set.object ≡ over
+      same here = object_is set.object over (eqb-true (set.object).0 over.0 here)
+
+      by : (kept : Bool) → is_seen bounds sets target set.object ≡ kept
+          → (((set.object).0 == over.0) ≡ true) ⊎ (is_in_sets later over ≡ true)
+          → (is_in_sets later over ≡ true → list_any test rest_seen ≡ true)
+          → list_any test (cons_option (cond kept (Some set.object) None) rest_seen) ≡ true
+      by true is (inl here) rest = or_left (test set.object) (list_any test rest_seen) (ap test (same here) ∙ passes)
+      by true is (inr behind) rest = or_right (test set.object) (list_any test rest_seen) (rest behind)
+      by false is (inl here) rest =
+          absurd (false≢true (sym is ∙ ap (is_seen bounds sets target) (same here) ∙ seen))
+      by false is (inr behind) rest = rest behind
 
 module _ (bounds : ℕ) (sets : List SetOf) (first second : Linking) where
   abbrev pub version_on : ObjectId → Option Candidate
@@ -309,39 +337,14 @@ module _ (bounds : ℕ) (sets : List SetOf) (first second : Linking) where
             ∙ read))
       ]
 
-  -- a test of an object of the sets that is seen
-  any_seen : (target over : ObjectId) (test : ObjectId → Bool) (members : List SetOf)
-      → is_in_sets members over ≡ true → is_seen bounds sets target over ≡ true → test over ≡ true
-      → list_any test (filter_map (λ (set : SetOf). if_seen bounds sets target set.object) members) ≡ true
-  any_seen target over test [] there seen passes = absurd (false≢true there)
-  any_seen target over test (set ∷ later) there seen passes =
-      by (is_seen bounds sets target set.object) refl
-      (or_cases ((set.object).0 == over.0) (is_in_sets later over) there)
-      (λ behind. any_seen target over test later behind seen passes)
-    where
-      rest_seen : List ObjectId
-      rest_seen = filter_map (λ (set : SetOf). if_seen bounds sets target set.object) later
-
-      same : ((set.object).0 == over.0) ≡ true → set.object ≡ over
-      same here = object_is set.object over (eqb-true (set.object).0 over.0 here)
-
-      by : (kept : Bool) → is_seen bounds sets target set.object ≡ kept
-          → (((set.object).0 == over.0) ≡ true) ⊎ (is_in_sets later over ≡ true)
-          → (is_in_sets later over ≡ true → list_any test rest_seen ≡ true)
-          → list_any test (cons_option (cond kept (Some set.object) None) rest_seen) ≡ true
-      by true is (inl here) rest = or_left (test set.object) (list_any test rest_seen) (ap test (same here) ∙ passes)
-      by true is (inr behind) rest = or_right (test set.object) (list_any test rest_seen) (rest behind)
-      by false is (inl here) rest =
-          absurd (false≢true (sym is ∙ ap (is_seen bounds sets target) (same here) ∙ seen))
-      by false is (inr behind) rest = rest behind
-
   read_key_is : (target over other : ObjectId) (version : Candidate) → is_seen bounds sets target over ≡ true
       → reads bounds sets over other ≡ true → version_on other ≡ Some version
       → read_key bounds sets target other ≡ Some (other, version.stamp)
   unfolding is_read seen_for
   read_key_is target over other version seen read is =
       ap (λ (it : Bool). cond it (method_key bounds sets other) None)
-      (any_seen target over (λ (it : ObjectId). reads bounds sets it other) sets (reads_in over other read) seen read)
+      (any_seen bounds sets target over (λ (it : ObjectId). reads bounds sets it other) sets
+      (reads_in over other read) seen read)
       ∙ ap (option_map (λ (it : Candidate). (other, it.stamp))) is
 
   evidence_has : (target : ObjectId) → AreAlike first second (evidence_of bounds sets target) → (over : ObjectId)

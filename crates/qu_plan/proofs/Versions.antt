@@ -5,13 +5,11 @@ use Rattle.std.specs.Prelude.{◌==◌, unwrap_or}
 use Rattle.std.proofs.lemmas.Bool.{false≢true, eqb-true}
 use Rattle.std.proofs.lemmas.Option.{none-some}
 use Rattle.qu_base.specs.declared.party.ObjectId.{ObjectId}
+use Rattle.qu_base.proofs.Numbered.{object_is}
 use Rattle.qu_history.specs.declared.sets.SetOf.{SetOf}
 use Rattle.qu_history.specs.Sets.{histories, entries_of, candidates_of, object_candidate, if_method, method_at, greatest}
 use Rattle.qu_plan.specs.Knowledge.{Version, versions_of}
 use Rattle.qu_class.specs.Class.{is_in_sets}
-
-pub object_is : (one other : ObjectId) → one.0 ≡ other.0 → one ≡ other
-object_is one other same = λ i. record { 0 = same i }
 
 -- an object with histories is in the sets
 pub shown_in : (members : List SetOf) (object : ObjectId)

@@ -6,6 +6,7 @@ use Rattle.qu_base.specs.Bounds.{replicas}
 use Rattle.qu_base.specs.declared.party.ObjectId.{ObjectId}
 use Rattle.qu_base.specs.declared.party.Party.TheVariants as party
 use Rattle.qu_base.specs.declared.party.ReplicaId.{ReplicaId}
+use Rattle.qu_base.proofs.EachItem.{each_append}
 use Rattle.qu_seal.specs.Keys.{Ring}
 use Rattle.qu_stamp.specs.declared.stamp.Stamp.{Stamp}
 use Rattle.qu_objects.specs.declared.state.ObjState.{ObjState}
@@ -20,7 +21,6 @@ use Rattle.qu_rows.specs.State.{ReplicaState}
 use Rattle.qu_waiting.specs.Waiting.{TakenRequest}
 use Rattle.qu_replica.specs.Step.{fetches_from, fetches_of, version_letters, carried_out, handled, learned, if_handled, replica_on_frame, replica_on_received, replica_step}
 use Rattle.qu_trace.specs.Faulty.{is_replica}
-use Rattle.qu_world.proofs.Each.{each_append}
 
 -- the letter is a replica's
 abbrev pub IsOfReplica : Letter → Type 0

@@ -1,17 +1,9 @@
 -- Numbers in a row.
-use Rattle.std.proofs.Common.{◌≡◌, ℕ, ◌+◌, ◌-◌, ◌<◌, ◌∷◌, List, ◌++◌, arith, suc, ap, append_assoc}
+use Rattle.std.proofs.Common.{◌≡◌, ℕ, ◌+◌, ◌-◌, ◌<◌, List, ◌++◌, append_assoc}
 use Rattle.std.specs.List.{flat_map, range_with_len}
+use Rattle.qu_base.proofs.Items.{range_begins}
 use Rattle.qu_print.specs.Lines.{lines_text}
 use Rattle.qu_print.proofs.LineFacts.{lines_text-append}
-
-range_with_len-above : (a n k : ℕ) → n ≡ suc k → range_with_len a n ≡ a ∷ range_with_len (a + 1) k
-range_with_len-above a n k e = ap (range_with_len a) e
-
--- the numbers from the one behind `earlier` up to `last` begin with that one
-range_step : (earlier last : ℕ) → earlier < last
-    → range_with_len (earlier + 1) (last - earlier) ≡ (earlier + 1) ∷ range_with_len (earlier + 1 + 1)
-    (last - (earlier + 1))
-range_step earlier last h = range_with_len-above (earlier + 1) (last - earlier) (last - (earlier + 1)) (omega arith)
 
 -- what is written stays the front of the whole as the lines of the next number are written
 pub lines_step : (lines_at : ℕ → List (List ℕ)) (earlier last : ℕ) (before written whole : List ℕ) → earlier < last
@@ -19,4 +11,4 @@ pub lines_step : (lines_at : ℕ → List (List ℕ)) (earlier last : ℕ) (befo
     → written ≡ before ++ lines_text (lines_at (earlier + 1))
     → written ++ lines_text (flat_map lines_at (range_with_len (earlier + 1 + 1) (last - (earlier + 1)))) ≡ whole
 lines_step lines_at earlier last before written whole h so_far next =
-    rw next (rw append_assoc (rw (← lines_text-append) (rw (range_step earlier last h) at so_far)))
+    rw next (rw append_assoc (rw (← lines_text-append) (rw (range_begins earlier last h) at so_far)))

@@ -1,5 +1,5 @@
 -- What the building of a round names besides.
-use Rattle.std.proofs.Common.{◌≡◌, ℕ, zero, suc, ◌-◌, cond, ◌&&◌, List, [], ◌∷◌, length, Option, None, Some, refl, sym, ap, ◌∙◌, arith, inl, inr}
+use Rattle.std.proofs.Common.{◌≡◌, ℕ, zero, suc, ◌-◌, cond, ◌&&◌, List, length, Option, None, Some, refl, sym, ap, ◌∙◌, arith, inl, inr}
 use Rattle.std.proofs.lemmas.Bool.{cases_Bool}
 use Rattle.std.proofs.lemmas.Option.{none-some, same_Some}
 use Rattle.qu_base.specs.declared.party.ObjectId.{ObjectId}
@@ -7,14 +7,13 @@ use Rattle.qu_stamp.specs.declared.candidate.Candidate.{Candidate}
 use Rattle.qu_history.specs.declared.limits.TheConstants.{OBJECTS_LIMIT}
 use Rattle.qu_history.specs.declared.sets.SetOf.{SetOf}
 use Rattle.qu_history.specs.History.{ObjectHistory}
-use Rattle.qu_history.specs.Sets.{entries_of, object_candidate, if_method, method_at}
+use Rattle.qu_history.specs.Sets.{object_candidate, if_method, method_at}
 use Rattle.qu_class.specs.declared.class.Class.TheVariants.{Method}
-use Rattle.qu_class.specs.declared.class.Class.{Class}
-use Rattle.qu_class.specs.Class.{is_latest, is_full, class_of, with_members, class_in}
+use Rattle.qu_class.specs.Class.{is_latest, is_full, class_of}
 use Rattle.qu_class.specs.Repairable.{object_base}
 use Rattle.qu_question.specs.declared.kept.Kept.{Kept}
 use Rattle.qu_question.specs.Named.{with_named}
-use Rattle.qu_question.specs.Question.{sets_of, are_full, need_of, needed_in, named_within, named_for}
+use Rattle.qu_question.specs.Question.{sets_of, needed_in, named_within, named_for}
 use Rattle.qu_question.proofs.Naming.{AreMore, same_named, and_more, with_named-more}
 
 -- ---- what was named stays named
@@ -76,18 +75,6 @@ module _ (bounds : ℕ) (entries : List ObjectHistory) (candidate : Candidate) w
   pub class_at_method : method_at bounds entries ≡ Some candidate → class_of bounds entries ≡ Method candidate
   unfolding method_at
   class_at_method method = by_candidate (object_candidate bounds entries) refl method
-
-pub one_current : (bounds : ℕ) (sets : List SetOf) (object : ObjectId) (candidate : Candidate)
-    → method_at bounds (entries_of object sets) ≡ Some candidate → needed_in bounds sets (object ∷ []) ≡ None
-unfolding class_in with_members
-one_current bounds sets object candidate method =
-    elim (cases_Bool (are_full bounds sets)) [
-      | inl full ↦
-          ap (λ test. cond test (need_of (class_in bounds sets object)) None) full
-          ∙ ap (λ (class : Class). need_of (with_members bounds sets class))
-          (class_at_method bounds (entries_of object sets) candidate method)
-      | inr thin ↦ ap (λ test. cond test (need_of (class_in bounds sets object)) None) thin
-    ]
 
 -- ---- how the building goes on
 

@@ -1,12 +1,9 @@
 -- Marks change none of the histories that are kept.
 use Rattle.std.proofs.Common.{◌≡◌, ℕ, zero, suc, ◌+◌, ◌<◌, ◌≤◌, List, [], ◌∷◌, map, ◌++◌, take, length, get_or, set, refl, ap, subst, ◌∙◌, arith}
-use Rattle.std.specs.Prelude.{Bool, ◌||◌}
-use Rattle.std.specs.List.{AllByRecursion, list_any}
+use Rattle.std.specs.List.{AllByRecursion}
 use Rattle.std.proofs.lemmas.List.{take-append-le, take_all}
 use Rattle.qu_history.specs.declared.sealed.Sealed.{Sealed}
 use Rattle.qu_history.specs.declared.sets.SetOf.{SetOf}
-use Rattle.qu_history.specs.History.{ObjectHistory}
-use Rattle.qu_history.specs.Sets.{histories}
 use Rattle.qu_question.specs.declared.kept.Kept.{Kept}
 use Rattle.qu_question.specs.declared.kept.Mark.{Mark}
 use Rattle.qu_question.specs.declared.kept.Mark.TheVariants.{Unshown}
@@ -108,9 +105,3 @@ shown_up_to_all sets place kept items so_far past =
 pub all_written : (size : ℕ) (written rest : List Kept) → length written ≡ size → take size (written ++ rest) ≡ written
 all_written size written rest same =
     take-append-le size written rest (omega arith) ∙ take_all size written (omega arith)
-
--- a history of some entries passes a test where an entry's does
-pub any_history : (test : ObjectHistory → Bool) (entries : List Sealed)
-    → list_any (λ (entry : Sealed). test entry.history) entries ≡ list_any test (histories entries)
-any_history test [] = refl
-any_history test (entry ∷ later) = ap (λ (rest : Bool). test entry.history || rest) (any_history test later)

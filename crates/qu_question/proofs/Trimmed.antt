@@ -2,21 +2,22 @@
 use Rattle.std.proofs.Common.{◌≡◌, ℕ, zero, suc, ◌+◌, ◌≤◌, Bool, cond, List, [], ◌∷◌, length, Option, None, Some, inl, inr, refl, sym, ap, subst, ◌∙◌, arith}
 use Rattle.std.specs.Prelude.{nat_le, not, ◌%◌, ◌==◌, ◌&&◌, map, filter}
 use Rattle.std.specs.List.{AllByRecursion}
-use Rattle.std.proofs.lemmas.Bool.{cases_Bool, cond_both, le-leb, leb-true}
+use Rattle.std.proofs.lemmas.Bool.{cases_Bool, cond_both}
 use Rattle.std.proofs.lemmas.List.{length-map}
-use Rattle.std.proofs.lemmas.List.Sums.{length-filter, count_by-le-length}
 use Rattle.std.proofs.lemmas.Option.{none-some, same_Some}
 use Rattle.qu_base.specs.declared.limits.TheConstants.{REPLICA_IDS}
 use Rattle.qu_base.specs.declared.party.ObjectId.{ObjectId}
 use Rattle.qu_base.specs.Bounds.{replicas, quorum, repair}
 use Rattle.qu_base.specs.Format.{FitsFrom}
+use Rattle.qu_base.proofs.Items.{few_left}
 use Rattle.qu_stamp.specs.declared.candidate.Candidate.{Candidate}
 use Rattle.qu_history.specs.declared.sealed.Sealed.{Sealed}
 use Rattle.qu_history.specs.declared.sets.SetOf.{SetOf}
-use Rattle.qu_history.specs.Formats.{entry_form, sealed_entry_form, next_entry, entries_form, set_form, sets_form}
+use Rattle.qu_history.specs.Formats.{entries_form, set_form, sets_form}
 use Rattle.qu_history.specs.History.{ObjectHistory}
 use Rattle.qu_history.specs.Sets.{histories}
 use Rattle.qu_history.specs.Trimming.{greatest_shown, is_up_to, entries_up_to, trimmed_set, trimmed}
+use Rattle.qu_class.proofs.EntriesFit.{EntriesFit, entries_left}
 use Rattle.qu_question.specs.declared.kept.Kept.{Kept}
 use Rattle.qu_question.specs.Question.{entries_from, whole_sets, sets_of}
 use Rattle.qu_question.specs.Kept.{is_left_out, kept_of}
@@ -97,42 +98,6 @@ each_of_sets Q bounds round kept objects each =
     (λ _. each_trimmed Q bounds (whole_sets bounds kept objects) whole) (λ _. whole)
 
 -- ---- trimmed sets fit
-
--- the entries of an object, by rising replicas from this number on
-abbrev EntriesFit : ObjectId → ℕ → List Sealed → Type 0
-EntriesFit object least entries = FitsFrom (sealed_entry_form object) next_entry least entries
-
-not_below : (object : ObjectId) (least : ℕ) (sealed : Sealed) → (sealed_entry_form object least).Fits sealed
-    → least ≤ ((sealed.history).replica).0
-unfolding sealed_entry_form entry_form
-not_below object least sealed fits = leb-true _ _ (fits.0.1.0.1)
-
--- an entry fits from a lower number on too
-entry_lower : (object : ObjectId) (least lower : ℕ) (sealed : Sealed) → lower ≤ least
-    → (sealed_entry_form object least).Fits sealed → (sealed_entry_form object lower).Fits sealed
-unfolding sealed_entry_form entry_form
-entry_lower object least lower sealed order fits =
-    let above : least ≤ ((sealed.history).replica).0 = leb-true _ _ (fits.0.1.0.1) in
-    ((fits.0.0, ((fits.0.1.0.0, le-leb lower ((sealed.history).replica).0 (omega arith)), fits.0.1.1)), fits.1)
-
-entries_lower : (object : ObjectId) (least lower : ℕ) (entries : List Sealed) → lower ≤ least
-    → EntriesFit object least entries → EntriesFit object lower entries
-entries_lower object least lower [] order fits = tt
-entries_lower object least lower (sealed ∷ later) order fits =
-    (entry_lower object least lower sealed order fits.0, fits.1)
-
-entries_left : (test : Sealed → Bool) (object : ObjectId) (least : ℕ) (entries : List Sealed)
-    → EntriesFit object least entries → EntriesFit object least (filter test entries)
-entries_left test object least [] fits = tt
-entries_left test object least (sealed ∷ later) fits =
-    let rest : EntriesFit object (next_entry sealed) (filter test later) =
-    entries_left test object (next_entry sealed) later fits.1 in
-    let order : least ≤ ((sealed.history).replica).0 = not_below object least sealed fits.0 in
-    cond_both (test sealed) _ _ (EntriesFit object least) (λ _. (fits.0, rest))
-    (λ _. entries_lower object (next_entry sealed) least (filter test later) (omega arith) rest)
-
-few_left : (test : Sealed → Bool) (entries : List Sealed) → length (filter test entries) ≤ length entries
-few_left test entries = omega (arith, length-filter test entries, count_by-le-length test entries)
 
 -- these entries fit, and are so many at most
 abbrev AreFew : ObjectId → List Sealed → List Sealed → Type 0

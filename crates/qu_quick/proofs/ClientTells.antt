@@ -2,13 +2,14 @@
 use Rattle.std.proofs.Common.{◌≡◌, ℕ, ◌+◌, ◌<◌, ◌≤◌, ◌==◌, Bool, true, false, cond, List, [], ◌∷◌, length, Some, refl, ap, ◌∙◌, arith}
 use Rattle.std.specs.Prelude.{nat_le}
 use Rattle.std.specs.List.{AllByRecursion}
-use Rattle.std.proofs.lemmas.Bool.{and_from}
+use Rattle.std.proofs.lemmas.Bool.{and_from, le-leb, lt-leb}
 use Rattle.std.proofs.lemmas.Bool.Decides.{nat_tests}
 use Rattle.std.proofs.lemmas.List.{length-append}
 use Rattle.std.proofs.lemmas.List.Sums.{sum_by-cons}
 use Rattle.qu_base.specs.Bounds.{quorum}
 use Rattle.qu_base.specs.declared.party.ObjectId.{ObjectId}
 use Rattle.qu_base.specs.declared.party.ReplicaId.{ReplicaId}
+use Rattle.qu_base.proofs.EachItem.{each_append}
 use Rattle.qu_stamp.specs.declared.stamp.Stamp.{Stamp}
 use Rattle.qu_stamp.specs.Stamp.{same_stamp}
 use Rattle.qu_stamp.proofs.Order.{same_stamp-self}
@@ -30,7 +31,6 @@ use Rattle.qu_question.specs.Kept.{keep_all}
 use Rattle.qu_client.specs.Verdicts.{identical_verdicts, has_replied}
 use Rattle.qu_client.specs.Work.{counts, is_asking, with_verdict}
 use Rattle.qu_client.specs.Steps.{stays, ends, judged, client_on_frame}
-use Rattle.qu_world.proofs.Each.{each_append}
 
 -- a verdict Done is identical to itself
 each_same : (stamps : List (ObjectId × Stamp)) → same_stamps stamps stamps ≡ true
@@ -58,12 +58,6 @@ identical_all told self (counted ∷ later) all =
     ap (λ (test : Bool). cond test 1 0 + identical_verdicts told later) here in
     let rest : identical_verdicts told later ≡ length later = identical_all told self later all.1 in
     omega (arith, one, rest)
-
-enough : (a b : ℕ) → a ≤ b → nat_le a b ≡ true
-enough a b within = grind (arith, nat_tests)
-
-short : (a b : ℕ) → b < a → nat_le a b ≡ false
-short a b below = grind (arith, nat_tests)
 
 module _ (state : ClientState) (work : Work) (parts : List (ObjectId × Method)) (is_act : work.body ≡ body.Act parts)
     (asking : is_asking work.phase ≡ true) (under_way : state.work ≡ Some work)
@@ -108,14 +102,14 @@ module _ (state : ClientState) (work : Work) (parts : List (ObjectId × Method))
       (record kept { work = Some after })
   waits_below below =
       let few : nat_le (quorum state.keys.bounds) (identical_verdicts told after.replies) ≡ false =
-      ap (nat_le (quorum state.keys.bounds)) identical_after ∙ short _ _ below in
+      ap (nat_le (quorum state.keys.bounds)) identical_after ∙ lt-leb _ _ below in
       let wanting : nat_le (quorum state.keys.bounds) (length after.replies) ≡ false =
-      ap (nat_le (quorum state.keys.bounds)) length_after ∙ short _ _ below in
+      ap (nat_le (quorum state.keys.bounds)) length_after ∙ lt-leb _ _ below in
       judged_so ∙ rw (is_act, few, wanting) refl
 
   -- at a quorum its operation is done
   pub ends_at : quorum state.keys.bounds ≤ length work.replies + 1 → step ≡ ends kept (outcome.Done answer)
   ends_at reached =
       let many : nat_le (quorum state.keys.bounds) (identical_verdicts told after.replies) ≡ true =
-      ap (nat_le (quorum state.keys.bounds)) identical_after ∙ enough _ _ reached in
+      ap (nat_le (quorum state.keys.bounds)) identical_after ∙ le-leb _ _ reached in
       judged_so ∙ rw (is_act, many) refl

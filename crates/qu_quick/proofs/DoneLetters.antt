@@ -43,7 +43,6 @@ use Rattle.qu_trace.specs.declared.trace.Trace.{Trace}
 use Rattle.qu_world.specs.State.{WorldState, ring_of, numbered}
 use Rattle.qu_world.specs.Step.{world_step, at_replica}
 use Rattle.qu_world.specs.Run.{IsRun}
-use Rattle.qu_world.proofs.Each.{set_here}
 use Rattle.qu_claims.specs.Carried.{handed, Brings}
 use Rattle.qu_runs.specs.Plain.{ArePlain}
 use Rattle.qu_claims.specs.Times.{world_after}
@@ -126,11 +125,6 @@ module _ (trace : Trace) (is_run : IsRun trace) (have : ArePlain trace) (at : �
       let made : Entry = record { event = entry.event; letters = (replica_step old text).1; ended = None } in
       ap (λ (it : Entry). it.letters)
       (sym (entry_recorded trace is_run at below entry made is_entry (ap (λ (it : WorldState). it.entries) world_is)))
-
-  pub new_is : slice_get (world_after trace (at + 1)).replicas place ≡ Some (replica_step old text).0
-  new_is =
-      ap (λ (it : WorldState). slice_get it.replicas place) world_is ∙
-      set_here (world_after trace at).replicas place old (replica_step old text).0 is_old
 
   module _ (client : ClientId) (number round : ℕ) (sets : List SetOf) (parts : List (ObjectId × Method)) (mac : List ℕ)
       (brings : Brings old text (frame.Request client number round sets (body.Act parts) mac)) where

@@ -2,13 +2,13 @@
 use Rattle.std.proofs.Common.{◌≡◌, ℕ, ◌<◌, ◌≤◌, ◌&&◌, ◌||◌, Bool, true, false, cond, map, inl, List, [], ◌∷◌, length, Option, None, Some, IsTrue, refl, sym, ap, subst, ◌∙◌, arith}
 use Rattle.std.specs.Prelude.{nat_le, nat_lt, find, is_none, option_map, option_and_then}
 use Rattle.std.specs.List.{AllByRecursion, list_all, list_any}
-use Rattle.std.proofs.lemmas.Bool.{false≢true}
-use Rattle.std.proofs.lemmas.Bool.Decides.{nat_tests}
+use Rattle.std.proofs.lemmas.Bool.{false≢true, lt-leb, le-ltb}
 use Rattle.std.proofs.lemmas.List.{length-map}
 use Rattle.qu_base.specs.Bounds.{quorum}
 use Rattle.qu_base.specs.declared.party.ClientId.{ClientId}
 use Rattle.qu_base.specs.declared.party.Digest.{Digest}
 use Rattle.qu_base.specs.declared.party.ObjectId.{ObjectId}
+use Rattle.qu_base.proofs.EachItem.{each_weaker}
 use Rattle.qu_stamp.specs.declared.stamp.Stamp.{Stamp}
 use Rattle.qu_stamp.specs.declared.limits.TheConstants.{LAST_TIME}
 use Rattle.qu_stamp.specs.declared.candidate.Candidate.{Candidate}
@@ -52,12 +52,6 @@ use Rattle.qu_quick.specs.Done.{done_stamps, done_verdict, IsReady}
 
 -- ---- small ones
 
-above_not_below : (a b : ℕ) → b < a → nat_le a b ≡ false
-above_not_below a b below = grind (arith, nat_tests)
-
-enough_not_few : (a b : ℕ) → a ≤ b → nat_lt b a ≡ false
-enough_not_few a b enough = grind (arith, nat_tests)
-
 -- where no item is bad, nothing is refused
 none_found : {A : Type 0} (bad : A → Bool) (items : List A) → AllByRecursion (λ item. bad item ≡ false) items
     → find bad items ≡ None
@@ -73,11 +67,6 @@ none_any : {A : Type 0} (bad : A → Bool) (items : List A) → AllByRecursion (
     → list_any bad items ≡ false
 none_any bad [] good = refl
 none_any bad (item ∷ later) good = ap (λ (test : Bool). test || list_any bad later) good.0 ∙ none_any bad later good.1
-
-all_weaker : {A : Type 0} (P Q : A → Type 0) → ((item : A) → P item → Q item) → (items : List A)
-    → AllByRecursion P items → AllByRecursion Q items
-all_weaker P Q weaker [] all = tt
-all_weaker P Q weaker (item ∷ later) all = (weaker item all.0, all_weaker P Q weaker later all.1)
 
 -- an operation has a part
 some_part : {X : Type 0} (parts : List (ObjectId × X)) → IsTrue (are_parts parts) → 1 ≤ length parts
@@ -155,18 +144,18 @@ module _ (state : ReplicaState) (client : ClientId) (number : ℕ) (sets : List 
   unknown =
       none_refused (λ (it : SetOf). refusal.UnknownObject it.object)
       (λ (it : SetOf). nat_le (length state.histories) (it.object).0) sets
-      (all_weaker (λ (it : SetOf). (it.object).0 < length state.histories)
-      (λ (it : SetOf). nat_le (length state.histories) (it.object).0 ≡ false)
-      (λ it below. above_not_below (length state.histories) (it.object).0 below) sets ready.known)
+      (each_weaker (λ (it : SetOf). (it.object).0 < length state.histories)
+      (λ (it : SetOf). nat_le (length state.histories) (it.object).0 ≡ false) sets
+      (λ it below. lt-leb (length state.histories) (it.object).0 below) ready.known)
 
   thin : row_thin state asked ≡ None
   unfolding row_thin
   thin =
       none_refused (λ (it : SetOf). refusal.Thin it.object)
       (λ (it : SetOf). nat_lt (length it.entries) (quorum state.keys.bounds)) sets
-      (all_weaker (λ (it : SetOf). quorum state.keys.bounds ≤ length it.entries)
-      (λ (it : SetOf). nat_lt (length it.entries) (quorum state.keys.bounds) ≡ false)
-      (λ it many. enough_not_few (quorum state.keys.bounds) (length it.entries) many) sets ready.enough)
+      (each_weaker (λ (it : SetOf). quorum state.keys.bounds ≤ length it.entries)
+      (λ (it : SetOf). nat_lt (length it.entries) (quorum state.keys.bounds) ≡ false) sets
+      (λ it many. le-ltb (length it.entries) (quorum state.keys.bounds) many) ready.enough)
 
   -- what the act would make is above all that the replica has
   not_held : (object : ObjectId) → Names parts object → (test : Bool)
@@ -237,7 +226,7 @@ module _ (state : ReplicaState) (client : ClientId) (number : ℕ) (sets : List 
   time =
       none_refused (λ (it : Seen). refusal.TimeSpent it.object) (λ (it : Seen). nat_le LAST_TIME it.latest.time) seen
       (each_seen (λ it. nat_le LAST_TIME it.latest.time ≡ false)
-      (λ it names. above_not_below LAST_TIME (latest_of (shown it)).time
+      (λ it names. lt-leb LAST_TIME (latest_of (shown it)).time
       (subst (λ (stamp : Stamp). stamp.time < LAST_TIME) (based it names).latest (ready.each it names).in_time)))
 
   full : row_full state seen ≡ None
@@ -246,7 +235,7 @@ module _ (state : ReplicaState) (client : ClientId) (number : ℕ) (sets : List 
       none_refused (λ (it : Seen). refusal.HistoryFull it.object)
       (λ (it : Seen). nat_le HISTORY_LIMIT (length (own_candidates state it.object))) seen
       (each_seen (λ it. nat_le HISTORY_LIMIT (length (own_candidates state it.object)) ≡ false)
-      (λ it names. above_not_below HISTORY_LIMIT (length (own_candidates state it)) (ready.each it names).room))
+      (λ it names. lt-leb HISTORY_LIMIT (length (own_candidates state it)) (ready.each it names).room))
 
   -- ---- what is decided
 

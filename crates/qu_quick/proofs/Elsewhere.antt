@@ -10,6 +10,8 @@ use Rattle.qu_base.specs.declared.party.ClientId.{ClientId}
 use Rattle.qu_base.specs.declared.party.Party.{Party}
 use Rattle.qu_base.specs.declared.party.Party.TheVariants as party
 use Rattle.qu_base.specs.declared.party.ReplicaId.{ReplicaId}
+use Rattle.qu_base.proofs.Numbered.{client_is}
+use Rattle.qu_base.proofs.EachItem.{each_weaker}
 use Rattle.qu_seal.specs.Keys.{Ring}
 use Rattle.qu_objects.specs.declared.op.Outcome.{Outcome}
 use Rattle.qu_frames.specs.declared.frame.Letter.{Letter}
@@ -28,7 +30,6 @@ use Rattle.qu_trace.specs.declared.trace.Entry.{Entry}
 use Rattle.qu_trace.specs.declared.trace.Trace.{Trace}
 use Rattle.qu_trace.specs.Faulty.{is_replica}
 use Rattle.qu_trace.specs.Operation.{outcome_in}
-use Rattle.qu_machine.proofs.Equalities.{client_is}
 use Rattle.qu_world.specs.State.{WorldState, numbered, with_numbered, letter_of}
 use Rattle.qu_world.specs.Step.{world_step, moved, at_client, at_replica, received, delivered, ended_by}
 use Rattle.qu_world.specs.Run.{IsRun}
@@ -66,11 +67,6 @@ all_of : {X : Type 0} (P : X → Type 0) (items : List X) → AllByRecursion P i
 all_of P [] each = All-nil P
 all_of P (item ∷ later) each = All-cons P item later each.0 (all_of P later each.1)
 
-each_weaker : {X : Type 0} (P Q : X → Type 0) → ((item : X) → P item → Q item) → (items : List X)
-    → AllByRecursion P items → AllByRecursion Q items
-each_weaker P Q weaker [] each = tt
-each_weaker P Q weaker (item ∷ later) each = (weaker item each.0, each_weaker P Q weaker later each.1)
-
 -- the client sends none of the letters, and none of its operations ends
 pub record IsNoneOf (client : ClientId) (letters : List Letter) (ended : Option (ClientId × ℕ × Outcome)) : Type 0
   where
@@ -106,8 +102,8 @@ none_of_other : (me client : ClientId) → me ≢ client → (letters : List Let
     → IsNoneOf client letters (ended_by me work ended)
 none_of_other me client apart letters work ended own = record {
   others = all_of (λ (letter : Letter). letter.from ≢ party.Client client) letters
-      (each_weaker (IsOfClient me) (λ (letter : Letter). letter.from ≢ party.Client client)
-      (λ letter of. not_of_other me client letter apart of) letters own);
+      (each_weaker (IsOfClient me) (λ (letter : Letter). letter.from ≢ party.Client client) letters
+      (λ letter of. not_of_other me client letter apart of) own);
   none_ends = λ number. none_by me client apart number work ended;
 }
 
@@ -121,8 +117,8 @@ of_replica : (client : ClientId) (state : ReplicaState) (text : List ℕ)
     → IsNoneOf client (replica_step state text).1 None
 of_replica client state text = record {
   others = all_of (λ (letter : Letter). letter.from ≢ party.Client client) (replica_step state text).1
-      (each_weaker IsOfReplica (λ (letter : Letter). letter.from ≢ party.Client client) (not_of_replica client)
-      (replica_step state text).1 (replica_sends state text));
+      (each_weaker IsOfReplica (λ (letter : Letter). letter.from ≢ party.Client client) (replica_step state text).1
+      (not_of_replica client) (replica_sends state text));
   none_ends = λ number. refl;
 }
 

@@ -13,6 +13,7 @@ use Rattle.qu_base.specs.Bounds.{quorum}
 use Rattle.qu_base.specs.declared.party.ClientId.{ClientId}
 use Rattle.qu_base.specs.declared.party.ObjectId.{ObjectId}
 use Rattle.qu_base.specs.declared.party.Party.TheVariants as party
+use Rattle.qu_base.proofs.EachItem.{each_append}
 use Rattle.qu_stamp.specs.declared.stamp.Stamp.{Stamp}
 use Rattle.qu_history.specs.declared.sealed.Sealed.{Sealed}
 use Rattle.qu_objects.specs.declared.act.Method.{Method}
@@ -38,13 +39,12 @@ use Rattle.qu_trace.specs.Operation.{outcome_in}
 use Rattle.qu_world.specs.State.{WorldState, numbered}
 use Rattle.qu_world.specs.Step.{world_step, at_client, ended_by}
 use Rattle.qu_world.specs.Run.{IsRun}
-use Rattle.qu_world.proofs.Each.{each_append}
+use Rattle.qu_world.proofs.Each.{numbered_here}
 use Rattle.qu_claims.specs.Carried.{handed}
 use Rattle.qu_claims.specs.Times.{world_after}
 use Rattle.qu_runs.specs.Plain.{ArePlain}
 use Rattle.qu_runs.proofs.Events.Entries.{entry_recorded}
 use Rattle.qu_runs.proofs.Events.Handing.{handed_step}
-use Rattle.qu_runs.proofs.Fits.Carrying.{numbered_here}
 use Rattle.qu_runs.proofs.Worlds.Keyed.{clients_keyed}
 use Rattle.qu_runs.proofs.Worlds.WorldGrowth.{world_after-next}
 use Rattle.qu_claims.specs.Quick.{IsElsewhere, RoundTurn, HearsNext, last_heard}

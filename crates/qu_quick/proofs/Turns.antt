@@ -1,5 +1,5 @@
 -- What a replica makes of the request of an act that is quick: the act is done, and each of them tells one verdict.
-use Rattle.std.proofs.Common.{◌≡◌, ℕ, ◌+◌, ◌<◌, ◌≤◌, true, not, inr, List, [], ◌∷◌, length, Option, None, Some, refl, sym, ap, subst, ◌∙◌, arith, inl}
+use Rattle.std.proofs.Common.{◌≡◌, ℕ, ◌+◌, ◌<◌, ◌≤◌, true, not, List, length, Option, None, Some, refl, sym, ap, subst, ◌∙◌, arith}
 use Rattle.std.specs.Prelude.{slice_get, unwrap_or, Contains, IsSome}
 use Rattle.std.proofs.lemmas.Bool.{false≢true}
 use Rattle.std.proofs.lemmas.Option.{get_or_from_slice_get, slice_get_within, same_Some}
@@ -72,6 +72,7 @@ use Rattle.qu_values.proofs.Updating.UpdateFacts.{UpdateFacts}
 use Rattle.qu_quick.specs.Done.{done_stamps, done_verdict, MayPerformOn, IsReady, IsDoneAt}
 use Rattle.qu_quick.proofs.FirstRound.{first_set, of_sets, enough_on}
 use Rattle.qu_claims.specs.Quick.{first_sets, IsReadyOn, RoundTurn, IsQuickTurn}
+use Rattle.qu_claims.proofs.PartValues.{same_values}
 use Rattle.qu_quick.proofs.DoneLetters.{done_at, reply_heard}
 use Rattle.qu_quick.proofs.FreshNumbers.{base_ever, found_version, found_lower}
 use Rattle.qu_quick.proofs.Hearing.{IsHeard}
@@ -102,15 +103,6 @@ object_known trace laws object candidate ever time place state is_state good =
 found_is : (found : Option ObjState) → IsSome found → found ≡ Some (unwrap_or found (opening_version Counter))
 found_is None some = absurd (false≢true some)
 found_is (Some it) some = refl
-
-values_same : (one other : ObjectId → Value) (parts : List (ObjectId × Method))
-    → ((object : ObjectId) → Names parts object → one object ≡ other object)
-    → values_on one parts ≡ values_on other parts
-values_same one other [] alike = refl
-values_same one other (part ∷ later) alike =
-    ap (λ (it : Value). it ∷ values_on one later) (alike part.0 (inl refl))
-    ∙ ap (λ (rest : List Value). other part.0 ∷ rest)
-    (values_same one other later (λ object names. alike object (inr names)))
 
 module _ (trace : Trace) (is_run : IsRun trace) (have : ArePlain trace) (clients : ClientFacts trace)
     (one_act : ActsAreOne trace) (laws : Laws (setting trace)) (joint : Joint (setting trace))
@@ -283,7 +275,7 @@ module _ (trace : Trace) (is_run : IsRun trace) (have : ArePlain trace) (clients
       done =
           subst (λ (values : List Value). IsDoneAt trace turn.handles turn.replica client operation.number 1
           (verdict.Done told_stamps (performed_answer parts values)))
-          (values_same (λ (object : ObjectId). (its_versions turn quick object).value)
+          (same_values (λ (object : ObjectId). (its_versions turn quick object).value)
           (λ (object : ObjectId). (versions object).value) parts
           (λ object names. ap (λ (it : ObjState). it.value)
           (facts.one_version object (bases object) (its_versions turn quick object) (versions object)

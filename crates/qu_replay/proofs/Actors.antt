@@ -1,7 +1,7 @@
 -- One step of a world at a correct actor.
 use Rattle.std.proofs.Common.{◌≡◌, ℕ, zero, suc, Bool, true, false, cond, List, [], ◌∷◌, ◌++◌, Option, None, Some, refl, sym, ap, ◌∙◌, inl, inr}
 use Rattle.std.specs.Prelude.{slice_get, slice_set, option_map, is_some, ◌==◌}
-use Rattle.std.proofs.lemmas.Bool.{false≢true, cases_Bool, eqb-true, eqb-false, eq-eqb}
+use Rattle.std.proofs.lemmas.Bool.{cases_Bool, eqb-true, eqb-false}
 use Rattle.std.proofs.lemmas.Option.{none-some}
 use Rattle.qu_base.specs.declared.party.ClientId.{ClientId}
 use Rattle.qu_base.specs.declared.party.ReplicaId.{ReplicaId}
@@ -25,7 +25,7 @@ use Rattle.qu_world.specs.State.{WorldState, numbered, with_numbered, correct_cl
 use Rattle.qu_world.specs.Step.{ended_by, at_replica, at_client, received, delivered, moved, at_faulty, is_to_faulty, world_step}
 use Rattle.qu_world.specs.Run.{bar_of}
 use Rattle.qu_world.specs.Refusals.{cause_of, refused_delivery, refused_tick, refused_invocation}
-use Rattle.qu_world.proofs.Each.{set_here, set_other}
+use Rattle.qu_world.proofs.Each.{set_here, set_other, numbered_here}
 use Rattle.qu_world.proofs.Steps.{step_moved, not_barred}
 use Rattle.qu_replay.specs.Steps.{Actor, Replicates, Asks, actor_moved, IsTakenByReplica, IsTakenByClient, moved_replica, moved_client}
 use Rattle.qu_replay.specs.declared.kept_step.KeptStep.{KeptStep}
@@ -33,20 +33,6 @@ use Rattle.qu_frames.specs.declared.input.Input.{Input}
 use Rattle.qu_frames.specs.declared.input.Input.TheVariants.{Frame, Tick, Invoke}
 use Rattle.qu_replay.specs.Replays.{IsStepMade, actor_at}
 use Rattle.qu_replay.specs.Told.{IsDelivery, IsEventOf, IsEntryOf}
-
--- ---- names of parties
-
-pub same_party : (a b : Party) → is_same a b ≡ true → a ≡ b
-same_party (party.Replica a) (party.Replica b) same =
-    ap (λ (n : ℕ). party.Replica (record { 0 = n })) (eqb-true a.0 b.0 same)
-same_party (party.Replica a) (party.Client b) same = absurd (false≢true same)
-same_party (party.Client a) (party.Replica b) same = absurd (false≢true same)
-same_party (party.Client a) (party.Client b) same =
-    ap (λ (n : ℕ). party.Client (record { 0 = n })) (eqb-true a.0 b.0 same)
-
-pub same_self : (a : Party) → is_same a a ≡ true
-same_self (party.Replica a) = eq-eqb a.0 a.0 refl
-same_self (party.Client a) = eq-eqb a.0 a.0 refl
 
 -- ---- actors of a world
 
@@ -111,12 +97,6 @@ after_replica world me state new entries (party.Replica other) is =
           rw (stays, test) refl
     ]
 
--- the items under two numbers
-with_here : {X : Type 0} (items : List X) (number : ℕ) (old new : X) → numbered items number ≡ Some old
-    → numbered (with_numbered items number new) number ≡ Some new
-with_here items zero old new found = absurd (none-some old found)
-with_here items (suc place) old new found = set_here items place old new found
-
 with_other : {X : Type 0} (items : List X) (number other : ℕ) (new : X) → (other ≡ number → ⊥)
     → numbered (with_numbered items number new) other ≡ numbered items other
 with_other items number zero new apart = refl
@@ -136,7 +116,7 @@ after_client world me state new entries (party.Client other) is =
           ap (λ (n : ℕ). is_faulty world.setup (party.Client (record { 0 = n }))) (sym same) ∙ is.correct in
           let found : numbered (with_numbered world.clients me.0 new) other.0 ≡ Some new =
           ap (λ (n : ℕ). numbered (with_numbered world.clients me.0 new) n) (sym same)
-          ∙ with_here world.clients me.0 state new is.found in
+          ∙ numbered_here world.clients me.0 state new is.found in
           rw (correct, found, test) refl
       | inr test ↦
           let stays : numbered (with_numbered world.clients me.0 new) other.0 ≡ numbered world.clients other.0 =

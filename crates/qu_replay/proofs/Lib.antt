@@ -9,5 +9,4 @@ pub mod Operations
 pub mod Growing
 pub mod Sorting
 pub mod Merging
-pub mod Standing
 pub mod LastTicket

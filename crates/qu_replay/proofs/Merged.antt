@@ -8,6 +8,7 @@ use Rattle.qu_base.specs.declared.party.Party.{Party}
 use Rattle.qu_base.specs.declared.party.Party.TheVariants as party
 use Rattle.qu_trace.specs.Faulty.{is_same}
 use Rattle.qu_trace.specs.declared.trace.Setup.{Setup}
+use Rattle.qu_trace.proofs.Parties.{same_self}
 use Rattle.qu_world.specs.Run.{IsSetup, IsRun, run, events_of}
 use Rattle.qu_replay.specs.Steps.{Actor, Replicates, Asks, actor_moved, CanTake}
 use Rattle.qu_frames.specs.declared.input.LetterName.{LetterName}
@@ -18,7 +19,6 @@ use Rattle.qu_replay.specs.Replays.{IsReplay, IsReplayOf, IsAfterLetter, RisesFr
 use Rattle.qu_replay.specs.Told.{AreTold}
 use Rattle.qu_replay.specs.Merged.{AreByTicket, letter_kept, IsLetter, IsBroughtTo, IsBrought, merged_entries, IsKeptLetter, IsKeptInput, AreKept}
 use Rattle.qu_replay.specs.Entries.{letter_named, IsNamedLetter, WasSentBefore, WereSentBefore}
-use Rattle.qu_replay.proofs.Actors.{same_self}
 use Rattle.qu_replay.proofs.Told.{own_here, own_other, told_is_run, told_from_opening}
 use Rattle.qu_replay.proofs.Naming.{not_named, named_before}
 use Rattle.qu_replay.proofs.Sending.{sent_told}
@@ -62,11 +62,6 @@ sent_from all front (x ∷ xs) low split sorted brought =
 -- where each frame is a letter of a smaller ticket, each step takes what was sent before it
 pub merged_sent : (all : Merged) → AreByTicket 0 all → AllByRecursion (IsBrought all) all → WereSentBefore [] all
 merged_sent all sorted brought = sent_from all [] all 0 refl sorted brought
-
--- so that the entries that are made of them tell them
-pub merged_told : (all : Merged) → AreByTicket 0 all → AllByRecursion (IsBrought all) all
-    → AreTold [] all (merged_entries all)
-merged_told all sorted brought = sent_told all (merged_sent all sorted brought)
 
 -- ---- from what each actor kept
 

@@ -166,9 +166,6 @@ invoke_opens : (state : ClientState) (op : Op) → under_way (client_invoke stat
 invoke_opens state op =
     invoke_cases state op (λ (stepped : Stepped). under_way stepped.state.work ≡ 1) (λ work first. refl)
 
-invoke_ends : (state : ClientState) (op : Op) → (client_invoke state op).ended ≡ None
-invoke_ends state op = refl
-
 begun_push : (before : List KeptStep) (step : KeptStep)
     → length (begun_operations (before ++ step ∷ [])) ≡ length (begun_operations before) + length (begun_in step.input)
 unfolding begun_operations

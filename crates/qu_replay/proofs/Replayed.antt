@@ -35,12 +35,6 @@ rises_push low [] step rises later after = (later, after, tt)
 rises_push low (x ∷ steps) step rises later after =
     (rises.0, rises.1, rises_push (x.ticket + 1) steps step rises.2 later after)
 
-pub replay_end : (me : Party) (first last : Actor) (steps : List KeptStep) → IsReplay me first steps last
-    → last ≡ state_after_steps me first steps
-unfolding IsReplay state_after_steps
-replay_end me first last [] replay = sym replay
-replay_end me first last (x ∷ later) replay = replay_end me (actor_moved me first x.input).actor last later replay.1
-
 -- ---- after some of the steps
 
 abbrev some_after : Party → Option Actor → List KeptStep → Option Actor

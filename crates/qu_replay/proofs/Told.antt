@@ -8,6 +8,7 @@ use Rattle.qu_trace.specs.Letters.{letters_of}
 use Rattle.qu_trace.specs.declared.trace.Entry.{Entry}
 use Rattle.qu_trace.specs.declared.trace.Setup.{Setup}
 use Rattle.qu_trace.proofs.LetterLaws.{letters-push}
+use Rattle.qu_trace.proofs.Parties.{same_party, same_self}
 use Rattle.qu_world.specs.State.{WorldState, opening_world}
 use Rattle.qu_world.specs.Step.{world_step}
 use Rattle.qu_world.specs.Run.{run_from, MayHappen, IsSetup, IsRun}
@@ -15,7 +16,7 @@ use Rattle.qu_replay.specs.Steps.{Actor, actor_moved}
 use Rattle.qu_replay.specs.declared.kept_step.KeptStep.{KeptStep}
 use Rattle.qu_replay.specs.Replays.{IsStepMade, IsReplay, IsReplayOf, AreReplays, AreReplaysOf, own_steps, actor_at}
 use Rattle.qu_replay.specs.Told.{AreTold, FollowsFrom}
-use Rattle.qu_replay.proofs.Actors.{Tells, told_step, same_party, same_self}
+use Rattle.qu_replay.proofs.Actors.{Tells, told_step}
 use Rattle.qu_replay.proofs.Openings.{opening_actor_is}
 
 -- ---- the first step

@@ -23,7 +23,6 @@ use Rattle.qu_rows.specs.Rows.{Asked, asked_of, asked_at, row_unknown, objects_o
 use Rattle.qu_replica.specs.Step.{replica_on_frame, carried_out}
 use Rattle.qu_trace.specs.declared.trace.Trace.{Trace}
 use Rattle.qu_world.specs.Run.{IsRun}
-use Rattle.qu_machine.proofs.Firsts.{contains_at}
 use Rattle.qu_replies.proofs.Replying.{reply_parts}
 use Rattle.qu_accepts.proofs.KnownObjects.{culled_had, not_unknown, known_sent}
 use Rattle.qu_accepts.proofs.Handled.{handled_upon}
@@ -41,6 +40,7 @@ use Rattle.qu_grounds.proofs.ActAcceptance.{alike_candidates}
 use Rattle.std.specs.List.{list_all}
 use Rattle.std.proofs.lemmas.List.Elements.{All-weaker}
 use Rattle.qu_base.specs.declared.party.Digest.{Digest}
+use Rattle.qu_base.proofs.Items.{contains_at}
 use Rattle.qu_history.specs.History.{holds}
 use Rattle.qu_versions.specs.Versions.{version_at}
 use Rattle.qu_frames.specs.declared.frame.Frame.{Frame}

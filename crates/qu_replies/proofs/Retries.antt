@@ -142,11 +142,6 @@ module _ (state : ReplicaState) (asked : Asked) (parts : List (ObjectId × Metho
   unfolding is_held
   held_so object holding = held_by object (method_base state asked object) holding
 
-  -- the version of a candidate that is held
-  abbrev version_held : HasVersions state → (object : ObjectId) → IsHeld object
-      → (version : ObjState) × (version_at object (fresh_stamp asked object) state.versions ≡ Some version)
-  version_held has object held = has object (fresh_on object) refl held.1
-
   abbrev version_then : ObjectId → ObjState
   version_then object = unwrap_or (version_at object (fresh_stamp asked object) state.versions) (before_of state asked
       object)

@@ -47,11 +47,11 @@ use Rattle.qu_rounds.proofs.Endings.{TextCompletes, EndsAt, operation_ends, Ende
 use Rattle.qu_claims.specs.Carried.{handed}
 use Rattle.qu_runs.specs.Plain.{ArePlain, IsFrom}
 use Rattle.qu_client.proofs.Laws.{sound_work}
-use Rattle.qu_machine.proofs.Equalities.{client_is}
 use Rattle.qu_frames.specs.Signing.{brought}
 use Rattle.qu_frames.proofs.Signed.{brought_is_decoded}
 use Rattle.qu_base.specs.declared.party.Party.TheVariants as party
 use Rattle.qu_base.specs.declared.party.Party.{Party}
+use Rattle.qu_base.proofs.Numbered.{client_is}
 use Rattle.std.specs.Prelude.{option_map}
 use Rattle.qu_frames.specs.Decoding.{decoded}
 use Rattle.qu_trace.specs.Letters.{letters_of}

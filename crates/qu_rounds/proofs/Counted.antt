@@ -1,10 +1,10 @@
 -- The verdicts of correct replicas that a client counts were sent by them, to the round that is under way.
-use Rattle.std.proofs.Common.{◌≡◌, ◌≢◌, ℕ, zero, suc, ◌+◌, ◌<◌, ◌≤◌, true, false, eqb, List, length, get_or, Option, None, Some, IfSome, refl, sym, ap, subst, ◌∙◌, arith, inl, inr, add-one, slice_get, All, AllPairs, Contains, Ok, Err, Result, Bool, not, if◌then◌else◌, []}
+use Rattle.std.proofs.Common.{◌≡◌, ◌≢◌, ℕ, zero, suc, ◌+◌, ◌<◌, ◌≤◌, true, false, eqb, List, length, get_or, Option, None, Some, IfSome, refl, sym, ap, subst, ◌∙◌, arith, inl, inr, add-one, slice_get, All, AllPairs, Contains, Ok, not, []}
 use Rattle.std.specs.List.{list_any}
 use Rattle.std.proofs.lemmas.Bool.{not-true, and_parts, eqb-true, cond_both, ltb-true, false≢true}
 use Rattle.std.proofs.lemmas.List.Elements.{All-nil, All-push, All-weaker, All-contains}
 use Rattle.std.proofs.lemmas.List.Quantifiers.{all_pairs_push}
-use Rattle.std.proofs.lemmas.Option.{none-some, same_Some}
+use Rattle.std.proofs.lemmas.Option.{none-some}
 use Rattle.qu_base.specs.declared.party.ClientId.{ClientId}
 use Rattle.qu_base.specs.declared.party.ReplicaId.{ReplicaId}
 use Rattle.qu_base.specs.Bounds.{replicas}
@@ -41,16 +41,15 @@ use Rattle.qu_world.proofs.Each.{with_cases}
 use Rattle.qu_claims.specs.Carried.{Tells}
 use Rattle.qu_runs.specs.Plain.{IsPlain, ArePlain, IsFrom, IsOfFaulty}
 use Rattle.qu_history.specs.declared.sealed.Sealed.{Sealed}
-use Rattle.qu_machine.proofs.Equalities.{client_is}
-use Rattle.qu_frames.specs.Signing.{brought, sender, is_signed, if_signed}
-use Rattle.qu_frames.proofs.Signed.{brought_is_decoded}
+use Rattle.qu_frames.specs.Signing.{brought, sender}
+use Rattle.qu_frames.proofs.Signed.{brought_is_decoded, sender_known}
+use Rattle.qu_frames.proofs.Decoded.{one_decoded}
 use Rattle.qu_base.specs.declared.party.Party.TheVariants as party
 use Rattle.qu_base.specs.declared.party.ObjectId.{ObjectId}
 use Rattle.qu_trace.specs.Faulty.{is_good, is_faulty}
 use Rattle.qu_frames.specs.Decoding.{decoded}
-use Rattle.qu_seal.specs.Keys.{Ring, has_party, verifies}
-use Rattle.qu_base.specs.declared.bad_text.BadText.{BadText}
-use Rattle.qu_base.specs.declared.party.Party.{Party}
+use Rattle.qu_seal.specs.Keys.{has_party}
+use Rattle.qu_base.proofs.Numbered.{client_is}
 use Rattle.std.specs.Prelude.{nat_lt}
 use Rattle.qu_trace.specs.declared.trace.Setup.{Setup}
 use Rattle.qu_runs.proofs.Digests.Plain.{setup_after}
@@ -121,27 +120,6 @@ answered_by trace is have before letter client number round counted shown sent i
       };
     }
 
--- whoever is brought a frame shares a key with its sender
-sender_known : (ring : Ring) (to : Party) (text : List ℕ) (taken : Frame) → brought ring to text ≡ Some taken
-    → has_party ring (sender taken) ≡ true
-unfolding brought is_signed verifies
-sender_known ring to text taken brings = by (decoded text) brings
-  where
-    keyed : (test : Bool) (found : Frame) → (if test then Some found else None) ≡ Some taken
-        → (test ≡ true) × (found ≡ taken)
-    keyed true found is = (refl, same_Some found taken is)
-    keyed false found is = absurd (none-some taken is)
-
-    has_key : (frame : Frame) → is_signed ring to text frame ≡ true → has_party ring (sender frame) ≡ true
-    has_key frame signed = (and_parts _ _ (and_parts _ _ signed).0).0
-
-    by : (read : Result Frame BadText) → if_signed ring to text read ≡ Some taken → has_party ring (sender taken) ≡ true
-    by (Ok frame) is =
-        let it : (is_signed ring to text frame ≡ true) × (frame ≡ taken) = keyed (is_signed ring to text frame) frame
-        is in
-        ap (λ (found : Frame). has_party ring (sender found)) (sym it.1) ∙ has_key frame it.0
-    by (Err bad) is = absurd (none-some taken is)
-
 -- each reply that the text is was sent so
 abbrev pub AreAnswers : Trace → ℕ → List ℕ → Type 0
 AreAnswers trace before text =
@@ -150,12 +128,6 @@ AreAnswers trace before text =
     → decoded text ≡ Ok (frame.Reply replica client number round verdict culled shown mac)
     → WasAnswered trace before client number round
     (record { replica = replica; verdict = verdict; culled = culled })
-
-same_taken : (text : List ℕ) (first second : Frame) → decoded text ≡ Ok first → decoded text ≡ Ok second
-    → first ≡ second
-same_taken text first second one other =
-    let same : Ok first ≡ Ok second = sym one ∙ other in
-    cc
 
 -- the replica of a reply that a faulty one made is within the bounds
 known_within : (trace : Trace) (before : ℕ) (replica : ReplicaId)
@@ -171,7 +143,7 @@ answers_of_faulty : (trace : Trace) (before : ℕ) (me : ClientId) (text : List 
 answers_of_faulty trace before me text made replica client number round verdict culled shown mac is =
     let world : WorldState = world_after trace before in
     let taken : made.taken ≡ frame.Reply replica client number round verdict culled shown mac =
-    same_taken text made.taken (frame.Reply replica client number round verdict culled shown mac)
+    one_decoded text made.taken (frame.Reply replica client number round verdict culled shown mac)
     (brought_is_decoded (ring_of world.setup) (party.Client me) text made.taken made.brings) is in
     let sent_by : party.Replica replica ≡ sender made.taken = ap sender (sym taken) in
     let faulty : is_faulty trace.setup (party.Replica replica) ≡ true =

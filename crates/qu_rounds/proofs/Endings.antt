@@ -32,9 +32,9 @@ use Rattle.qu_trace.specs.Operation.{outcome_in, first_end, end_from, begins_at,
 use Rattle.qu_world.specs.Step.{ended_by}
 use Rattle.qu_history.specs.declared.sealed.Sealed.{Sealed}
 use Rattle.qu_base.specs.declared.party.ObjectId.{ObjectId}
-use Rattle.qu_machine.proofs.Equalities.{client_is}
 use Rattle.qu_frames.specs.Signing.{brought}
 use Rattle.qu_base.specs.declared.party.Party.TheVariants as party
+use Rattle.qu_base.proofs.Numbered.{client_is}
 
 -- ---- where the end is recorded
 

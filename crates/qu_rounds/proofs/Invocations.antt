@@ -11,6 +11,7 @@ use Rattle.qu_base.specs.declared.party.ClientId.{ClientId}
 use Rattle.qu_base.specs.declared.party.ReplicaId.{ReplicaId}
 use Rattle.qu_base.specs.declared.party.Party.{Party}
 use Rattle.qu_base.specs.declared.party.Party.TheVariants as party
+use Rattle.qu_base.proofs.Numbered.{client_is}
 use Rattle.qu_history.specs.declared.sets.SetOf.{SetOf}
 use Rattle.qu_objects.specs.declared.op.Op.{Op}
 use Rattle.qu_frames.specs.declared.frame.Body.{Body}
@@ -43,13 +44,12 @@ use Rattle.qu_runs.proofs.Worlds.WorldGrowth.{world_after-next, world_after-none
 use Rattle.qu_runs.proofs.Events.Beginning.{operation_begun, begun_one, begun_same, happens, IsFree, may_invoke}
 use Rattle.qu_rounds.proofs.Requesting.{IsAsked, asked_later, replica_asked, IsUnderWay, IsAtWork, IsClientAt, client_later, client_steps, client_step-asked, client_ticks, client_tick-asked, client_begins, client_begins-asked, op_for}
 use Rattle.qu_runs.proofs.Small.{some_entry}
-use Rattle.qu_world.proofs.Each.{with_cases}
+use Rattle.qu_world.proofs.Each.{with_cases, numbered_here}
 use Rattle.qu_claims.specs.Carried.{Asks}
 use Rattle.qu_runs.specs.Plain.{IsPlain, ArePlain}
-use Rattle.qu_runs.proofs.Fits.Carrying.{AsksFit, IsFitStep, numbered_here}
+use Rattle.qu_runs.proofs.Fits.Carrying.{AsksFit, IsFitStep}
 use Rattle.qu_runs.proofs.Fits.Fitting.{fit_step}
 use Rattle.qu_trace.proofs.LetterLaws.{letters-push}
-use Rattle.qu_machine.proofs.Equalities.{client_is}
 use Rattle.qu_seal.specs.Keys.{Ring}
 use Rattle.qu_runs.proofs.Events.Handing.{injected_cases}
 

@@ -5,10 +5,10 @@ use Rattle.std.specs.List.{Contains}
 use Rattle.std.proofs.lemmas.List.Elements.{All-contains, All-nil, Contains-append_cases}
 use Rattle.std.proofs.lemmas.Option.{none-some, slice_get_within, get_or_from_slice_get}
 use Rattle.qu_base.specs.declared.party.ClientId.{ClientId}
+use Rattle.qu_base.proofs.Numbered.{client_is}
 use Rattle.qu_history.specs.declared.sets.SetOf.{SetOf}
 use Rattle.qu_frames.specs.declared.frame.Body.{Body}
 use Rattle.qu_frames.specs.declared.frame.Letter.{Letter}
-use Rattle.qu_machine.proofs.Equalities.{client_is}
 use Rattle.qu_replica.specs.Step.{replica_step}
 use Rattle.qu_client.specs.declared.state.ClientState.{ClientState}
 use Rattle.qu_client.specs.State.{Stepped}
@@ -22,12 +22,12 @@ use Rattle.qu_trace.specs.Letters.{letters_of}
 use Rattle.qu_world.specs.State.{WorldState, opening_world, numbered, with_numbered, letter_of}
 use Rattle.qu_world.specs.Step.{world_step, at_client}
 use Rattle.qu_world.specs.Run.{IsRun}
-use Rattle.qu_world.proofs.Each.{with_cases}
+use Rattle.qu_world.proofs.Each.{with_cases, numbered_here}
 use Rattle.qu_trace.proofs.LetterLaws.{letters-push}
 use Rattle.qu_claims.specs.Carried.{Asks}
 use Rattle.qu_runs.specs.Plain.{IsPlain, ArePlain}
 use Rattle.qu_claims.specs.Times.{world_after}
-use Rattle.qu_runs.proofs.Fits.Carrying.{AsksFit, numbered_here}
+use Rattle.qu_runs.proofs.Fits.Carrying.{AsksFit}
 use Rattle.qu_runs.proofs.Fits.Fitting.{fit_step}
 use Rattle.qu_runs.proofs.Events.Recording.{world_cases}
 use Rattle.qu_runs.proofs.Small.{some_entry}

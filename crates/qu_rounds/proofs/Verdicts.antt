@@ -6,6 +6,7 @@ use Rattle.std.specs.Bool.{Decides}
 use Rattle.std.proofs.lemmas.Bool.Decides.{Decides-eqb}
 use Rattle.std.proofs.lemmas.Slice.Eq.{slice_eq-Decides}
 use Rattle.qu_base.specs.declared.party.ObjectId.{ObjectId}
+use Rattle.qu_base.proofs.Numbered.{object_is}
 use Rattle.qu_stamp.specs.declared.stamp.Stamp.{Stamp}
 use Rattle.qu_stamp.specs.Stamp.{same_stamp}
 use Rattle.qu_stamp.proofs.Order.{same_stamp-self, equal_by_same_stamp}
@@ -18,7 +19,7 @@ use Rattle.qu_verdicts.specs.Verdict.{same_verdict, same_object, same_stamps}
 use Rattle.qu_objects.specs.Alike.{same_answer}
 use Rattle.qu_verdicts.specs.declared.verdict.Verdict.TheVariants.{Done, Told, Already, Mended, Refused}
 use Rattle.qu_client.specs.Verdicts.{fitting}
-use Rattle.qu_machine.proofs.Equalities.{decides_answer, object_is}
+use Rattle.qu_machine.proofs.Equalities.{decides_answer}
 
 -- ---- identical verdicts
 

@@ -7,6 +7,7 @@ use Rattle.std.proofs.lemmas.Option.{none-some, same_Some}
 use Rattle.qu_base.specs.declared.party.ObjectId.{ObjectId}
 use Rattle.qu_base.specs.Bounds.{quorum}
 use Rattle.qu_base.proofs.ThresholdFacts.{some_quorum}
+use Rattle.qu_base.proofs.Items.{not_first}
 use Rattle.qu_stamp.specs.declared.stamp.Stamp.{Stamp}
 use Rattle.qu_stamp.specs.declared.limits.TheConstants.{LAST_TIME}
 use Rattle.qu_stamp.specs.declared.candidate.Candidate.{Candidate}
@@ -15,13 +16,14 @@ use Rattle.qu_stamp.proofs.Order.{is_below_by_time}
 use Rattle.qu_history.specs.declared.sets.SetOf.{SetOf}
 use Rattle.qu_history.specs.declared.limits.TheConstants.{HISTORY_LIMIT}
 use Rattle.qu_history.specs.History.{ObjectHistory, latest}
-use Rattle.qu_history.specs.Sets.{histories, entries_of, latest_of, method_at, if_method, object_candidate, candidates_of, greatest}
+use Rattle.qu_history.specs.Sets.{histories, entries_of, latest_of, method_at}
 use Rattle.qu_objects.specs.declared.act.Method.{Method}
 use Rattle.qu_objects.specs.declared.query.Ask.{Ask}
 use Rattle.qu_objects.specs.declared.state.ObjState.{ObjState}
 use Rattle.qu_kept.specs.declared.repeats.Standing.{Standing}
 use Rattle.qu_kept.proofs.EachObject.{AreDistinct, distinct_parts}
 use Rattle.qu_kept.specs.declared.repeats.Standing.TheVariants as standing
+use Rattle.qu_plan.proofs.Versions.{no_method}
 use Rattle.qu_frames.specs.declared.frame.Body.{Body}
 use Rattle.qu_frames.specs.declared.frame.Body.TheVariants as body
 use Rattle.qu_verdicts.specs.declared.verdict.Refusal.{Refusal}
@@ -79,19 +81,6 @@ time state seen = refusing state _ _
 full : (state : ReplicaState) (seen : List Seen) → MayGive state (row_full state seen)
 unfolding row_full
 full state seen = refusing state _ _
-
--- no entry, no candidate
-pub method_at_none : (bounds : ℕ) → method_at bounds [] ≡ None
-unfolding method_at if_method object_candidate candidates_of greatest
-method_at_none bounds = refl
-
-pub not_first : {A : Type 0} (test : Bool) (it : A) (later : Option A) → cond test (Some it) later ≡ None
-    → (test ≡ false) × (later ≡ None)
-not_first test it later none =
-    elim test as (λ (t : Bool). cond t (Some it) later ≡ None → (t ≡ false) × (later ≡ None)) [
-      | true ↦ λ found. absurd (none-some it (sym found))
-      | false ↦ λ rest. (refl, rest)
-    ] none
 
 -- no object of the sets is unknown, so one that has entries is known
 known_by_entries : (number : ℕ) (sets : List SetOf) (object : ObjectId)
@@ -201,7 +190,7 @@ may_accept_fresh state asked group object known current in_time room fresh made 
     record {
       known = known_by_entries (length state.histories) asked.sets object known
           (λ empty. parts.0 (ap (λ (entries : List ObjectHistory). method_at state.keys.bounds entries) empty
-          ∙ method_at_none state.keys.bounds));
+          ∙ no_method state.keys.bounds));
       later = fresh_later (latest_of (shown_of asked object)) (own_latest state object) fresh.stamp next current;
       room = leb-false _ _ room;
       in_time = in_time_of (latest_of (shown_of asked object)) fresh.stamp next (leb-false _ _ in_time);
@@ -273,11 +262,6 @@ none_refused {X = X} bad why (item ∷ later) none = by_test (bad item) refl non
     by_test true is refused so_far = absurd (none-some (refuse (why item)) (sym refused))
     by_test false is passed so_far = (is, so_far passed)
 
-pub no_first : (why : ObjectId → Refusal) (bad : Bool) (object : ObjectId)
-    → option_map (λ (it : ObjectId). refuse (why it)) (cond bad (Some object) None) ≡ None → bad ≡ false
-no_first why true object none = absurd (none-some (refuse (why object)) (sym none))
-no_first why false object none = refl
-
 no_unknown : (state : ReplicaState) (asked : Asked) → row_unknown state asked ≡ None
     → find (λ (set : SetOf). nat_le (length state.histories) (set.object).0) asked.sets ≡ None
 unfolding row_unknown
@@ -337,7 +321,7 @@ unfolding row_few
 few state asked target = refused_if state _ _
 
 -- an object that the row of few entries passes has a quorum of them
-enough_shown : (state : ReplicaState) (asked : Asked) (target : ObjectId) → row_few state asked target ≡ None
+pub enough_shown : (state : ReplicaState) (asked : Asked) (target : ObjectId) → row_few state asked target ≡ None
     → quorum state.keys.bounds ≤ length (shown_of asked target)
 unfolding row_few
 enough_shown state asked target none =

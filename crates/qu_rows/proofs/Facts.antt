@@ -1,5 +1,5 @@
 -- The facts of a replica tell of their keys what its versions tell, and decide how an object is mended.
-use Rattle.std.proofs.Common.{◌≡◌, ◌&&◌, ◌||◌, ℕ, Bool, true, false, cond, List, [], ◌∷◌, map, Option, None, Some, Result, find, refl, sym, ap, ◌∙◌}
+use Rattle.std.proofs.Common.{◌≡◌, ◌&&◌, ◌||◌, ℕ, Bool, true, false, cond, List, [], ◌∷◌, Option, None, Some, Result, find, refl, sym, ap, ◌∙◌}
 use Rattle.std.specs.Prelude.{◌==◌, option_map, option_and_then}
 use Rattle.std.specs.List.{AllByRecursion, list_any, cons_option}
 use Rattle.std.proofs.lemmas.Bool.{false≢true, and_parts, and_from, eqb-true, eq-eqb, or_left, or_right}
@@ -20,12 +20,9 @@ use Rattle.qu_plan.specs.Copying.{plan_of}
 use Rattle.qu_plan.specs.Evidence.{evidence_of, AreAlike}
 use Rattle.qu_plan.specs.Linking.{is_fact_of, link_in, link_by, linking}
 use Rattle.qu_plan.proofs.PlanEvidence.{evidence_enough}
-use Rattle.qu_kept.specs.declared.course.Course.{Course}
-use Rattle.qu_mends.specs.declared.mend.Mend.{Mend}
-use Rattle.qu_mends.specs.Mending.{decide_mend}
-use Rattle.qu_mends.specs.Remedy.{MendPart, course_by, course_of, mend_by}
+use Rattle.qu_mends.specs.Remedy.{course_by, course_of}
 use Rattle.qu_rows.specs.State.{ReplicaState}
-use Rattle.qu_rows.specs.Rows.{Asked, linking_of, fact_at, facts_of, evidence_for, part_of, mending_on}
+use Rattle.qu_rows.specs.Rows.{Asked, linking_of, fact_at, facts_of, evidence_for}
 
 abbrev is_key : ObjectId → Stamp → ObjectId × Stamp → Bool
 is_key object stamp key = (key.0).0 == object.0 && same_stamp key.1 stamp
@@ -159,13 +156,3 @@ facts_decide state asked target = by (is_copy class) refl
         uncopied_same state.keys.bounds asked.sets target
         (plan_of state.keys.bounds asked.sets (linking (facts_of state [])) target)
         (plan_of state.keys.bounds asked.sets (linking_of state) target) class apart
-
--- so does the course by them
-pub mended_on : (state : ReplicaState) (asked : Asked) (target : ObjectId) (course : Course) (mend : Mend)
-    (parts : List MendPart) → course ≡ course_of state.keys.bounds asked.sets (linking_of state) target
-    → mend ≡ mend_by asked.sets asked.set target asked.client course → parts ≡ map (part_of state asked) mend.remedies
-    → decide_mend mend parts ≡ mending_on state asked target
-mended_on state asked target course mend parts course_is mend_is parts_are =
-    ap (decide_mend mend) parts_are
-    ∙ ap (λ (it : Mend). decide_mend it (map (part_of state asked) it.remedies))
-    (mend_is ∙ ap (mend_by asked.sets asked.set target asked.client) course_is)

@@ -3,7 +3,7 @@ use Rattle.std.proofs.Common.{◌≡◌, ℕ, suc, ◌+◌, ◌==◌, ◌<◌, �
 use Rattle.std.specs.Prelude.{find}
 use Rattle.std.specs.List.{All, AllByRecursion, list_any}
 use Rattle.std.specs.Option.{option_map}
-use Rattle.std.proofs.lemmas.Bool.{and_from, le-leb, lt-ltb, true≢false, eqb-true, eq-eqb}
+use Rattle.std.proofs.lemmas.Bool.{and_from, le-leb, lt-ltb, true≢false, eqb-true, eq-eqb, or_right}
 use Rattle.std.proofs.lemmas.Bool.Decides.{nat_tests}
 use Rattle.std.proofs.lemmas.List.Elements.{recursion_from_All}
 use Rattle.std.proofs.lemmas.List.{length-map}
@@ -76,12 +76,8 @@ among_later all [] are = tt
 among_later all (object ∷ later) are = (
   are object (ap (λ (test : Bool). test || is_among object later) (eq-eqb object.0 object.0 refl)),
   among_later all later
-      (λ other there. are other (among_more (object.0 == other.0) (is_among other later) there)),
+      (λ other there. are other (or_right (object.0 == other.0) (is_among other later) there)),
 )
-  where
-    among_more : (here there : Bool) → there ≡ true → (here || there) ≡ true
-    among_more true there is = refl
-    among_more false there is = is
 
 -- the group of more candidates than one lists each object of an act with the time of its candidate
 pub each_listed : (asked : Asked) (objects : List ObjectId)

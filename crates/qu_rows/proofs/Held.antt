@@ -2,7 +2,7 @@
 use Rattle.std.proofs.Common.{ℕ, [], ◌∷◌, ◌≡◌, ◌+◌, ◌&&◌, cond, ap, ◌≤◌, Bool, true, false, List, Option, None, Some, refl, sym, ◌∙◌, arith, inl, inr}
 use Rattle.std.specs.Prelude.{find, nat_le, slice_get, is_some, option_map}
 use Rattle.std.specs.List.{list_all}
-use Rattle.std.proofs.lemmas.Bool.{and_left, cases_Bool, cases_lt, false≢true, leb-true}
+use Rattle.std.proofs.lemmas.Bool.{and_left, cases_Bool, cases_lt, false≢true, leb-true, and_right}
 use Rattle.std.proofs.lemmas.Option.{none-some}
 use Rattle.qu_base.specs.declared.party.ObjectId.{ObjectId}
 use Rattle.qu_stamp.specs.declared.limits.TheConstants.{LAST_TIME}
@@ -52,10 +52,6 @@ fresh_not_held state asked group one base own spent =
       | inr not_held ↦ not_held
     ]
 
-and_false : (test : Bool) → (test && false) ≡ false
-and_false true = refl
-and_false false = refl
-
 -- so a replica holds no fresh candidate of an object whose time is spent
 spent_not_held : (state : ReplicaState) (asked : Asked) (group : List (ObjectId × ℕ)) (one : Seen)
     → AreHistories state → LAST_TIME ≤ one.latest.time → is_held state asked group one ≡ false
@@ -86,7 +82,7 @@ not_all_held state asked group (one ∷ later) spent own found =
         → (is_held state asked group one && list_all (is_held state asked group) later) ≡ false
     by true is here so_far = and_left _ _ (spent_not_held state asked group one own (leb-true _ _ is))
     by false is there so_far =
-        ap (λ (all : Bool). is_held state asked group one && all) (so_far there) ∙ and_false _
+        ap (λ (all : Bool). is_held state asked group one && all) (so_far there) ∙ and_right _ false refl
 
 pub none_held : (state : ReplicaState) (asked : Asked) (seen : List Seen) → AreHistories state
     → is_some (find (λ (one : Seen). nat_le LAST_TIME one.latest.time) seen) ≡ true

@@ -1,11 +1,8 @@
 -- Small lemmas that several files need: the first of a list, letters of entries, and equality of what has equal parts.
-use Rattle.std.proofs.Common.{◌≡◌, ℕ, ◌<◌, ◌≤◌, true, false, List, [], ◌∷◌, length, Option, None, Some, refl, sym, arith, inl, inr, subst}
-use Rattle.std.specs.Prelude.{◌==◌, is_none, Contains}
+use Rattle.std.proofs.Common.{◌≡◌, ℕ, ◌<◌, ◌≤◌, List, [], ◌∷◌, length, sym, arith, inl, inr, subst}
+use Rattle.std.specs.Prelude.{Contains}
 use Rattle.std.specs.List.{All, flat_map}
-use Rattle.std.proofs.lemmas.Bool.{false≢true}
-use Rattle.std.proofs.lemmas.Bool.Decides.{nat_tests}
 use Rattle.std.proofs.lemmas.List.Elements.{All-head, Contains-push_cases, Contains-append_left, Contains-append_right, Contains-append_cases}
-use Rattle.qu_base.specs.declared.party.ObjectId.{ObjectId}
 use Rattle.qu_base.specs.Bounds.{quorum, AreThresholds}
 use Rattle.qu_base.proofs.ThresholdFacts.{are_thresholds}
 use Rattle.qu_machine.specs.declared.record.Point.{Point}
@@ -23,15 +20,6 @@ pub some_member : (P : ℕ → Type 0) (members : List ℕ) → 1 ≤ length mem
 some_member P [] some all = absurd (omega arith)
 some_member P (member ∷ later) some all = (member, All-head P member later all)
 
-pub some_of : {A : Type 0} (found : Option A) → is_none found ≡ false → (it : A) × (found ≡ Some it)
-some_of None none = absurd (false≢true (sym none))
-some_of (Some it) none = (it, refl)
-
-pub single : {A : Type 0} (items : List A) → length items ≡ 1 → (item : A) × (items ≡ item ∷ [])
-single [] one = absurd (omega arith)
-single (item ∷ []) one = (item, refl)
-single (first ∷ second ∷ later) one = absurd (omega arith)
-
 pub only_one : {X : Type 0} (first it : X) → Contains (first ∷ []) it → first ≡ it
 only_one first it held =
     elim (Contains-push_cases [] first it held) [
@@ -46,9 +34,6 @@ quorum_outnumbers b some =
     omega arith
 
 -- ---- equal parts
-
-pub same_object : (first second : ObjectId) → (first.0 == second.0) ≡ true → first ≡ second
-same_object first second alike = grind (arith, nat_tests)
 
 pub same_point : (first second : Point) → first.event ≡ second.event → first.client ≡ second.client
     → first.number ≡ second.number → first.op ≡ second.op → first.faulty ≡ second.faulty → first ≡ second

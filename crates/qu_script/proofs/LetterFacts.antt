@@ -5,6 +5,7 @@ use Rattle.std.specs.Borrow.{Bor}
 use Rattle.std.specs.Option.{option_or, option_copied}
 use Rattle.std.proofs.lemmas.List.{at_drop_more, at_drop_all}
 use Rattle.qu_base.specs.declared.party.Party.{Party}
+use Rattle.qu_base.proofs.Items.{or_none}
 use Rattle.qu_frames.specs.declared.frame.Letter.{Letter}
 use Rattle.qu_trace.specs.declared.trace.Entry.{Entry}
 use Rattle.qu_script.specs.Letters.{is_meant, if_meant, last_of, last_sent}
@@ -12,10 +13,6 @@ use Rattle.qu_script.specs.Letters.{is_meant, if_meant, last_of, last_sent}
 or_assoc : {X : Type 0} (a b c : Option X) → option_or (option_or a b) c ≡ option_or a (option_or b c)
 or_assoc None b c = refl
 or_assoc (Some x) b c = refl
-
-or_none : {X : Type 0} (a : Option X) → option_or a None ≡ a
-or_none None = refl
-or_none (Some x) = refl
 
 -- ---- letters
 

@@ -1,7 +1,7 @@
 -- Facts on the marks of replicas.
 use Rattle.std.proofs.Common.{◌≡◌, ℕ, ◌+◌, ◌<◌, ◌≤◌, Bool, List, length, get_or, drop, sym, ap, ◌∙◌}
 use Rattle.std.specs.Prelude.{slice_set}
-use Rattle.std.proofs.lemmas.List.{at_drop_more, at_drop_all, set_past}
+use Rattle.std.proofs.lemmas.List.{at_drop_more, at_drop_all}
 use Rattle.qu_base.specs.declared.party.ReplicaId.{ReplicaId}
 use Rattle.qu_script.specs.Outage.{with_marks}
 
@@ -18,7 +18,3 @@ pub marks_end : (mark : Bool) (held : List Bool) (replicas : List ReplicaId) (in
     → with_marks mark held (drop index replicas) ≡ held
 unfolding with_marks
 marks_end mark held replicas index past = at_drop_all (with_marks mark held) replicas index past
-
--- a replica that is not there has no mark
-pub marks_past : (held : List Bool) (index : ℕ) (mark : Bool) → length held ≤ index → held ≡ slice_set held index mark
-marks_past held index mark past = sym (set_past held index mark past)

@@ -4,7 +4,7 @@ use Rattle.std.specs.Prelude.{slice_get, is_some, Result, Ok, Err, OnOk, OnErr}
 use Rattle.std.specs.Borrow.{Bor}
 use Rattle.std.specs.List.{list_any}
 use Rattle.std.specs.Option.{option_copied}
-use Rattle.std.proofs.lemmas.Bool.{cases_lt, false≢true, or_left, or_right, eqb-true}
+use Rattle.std.proofs.lemmas.Bool.{cases_lt, false≢true, or_left, or_right, eqb-true, le-leb}
 use Rattle.std.proofs.lemmas.List.{take-append-drop, take-append-le, length-append}
 use Rattle.std.proofs.lemmas.Bool.Decides.{nat_tests}
 use Rattle.std.proofs.lemmas.List.Folds.{list_any-append, list_any_more}
@@ -16,6 +16,7 @@ use Rattle.qu_frames.specs.declared.frame.Letter.{Letter}
 use Rattle.qu_trace.specs.declared.trace.Entry.{Entry}
 use Rattle.qu_trace.specs.declared.trace.Setup.{Setup}
 use Rattle.qu_trace.specs.Letters.{letters_of}
+use Rattle.qu_trace.proofs.LetterLaws.{numbered-append}
 use Rattle.qu_world.specs.declared.fail.WorldFail.{WorldFail}
 use Rattle.qu_world.specs.State.{WorldState, numbered}
 use Rattle.qu_world.specs.Step.{world_step, is_to_faulty}
@@ -167,11 +168,6 @@ search_goes_on setup entries outage event next letter after moved is_passed so_f
       (λ (low : it < letter). so_far.none it one low) within;
 }
 
--- no event before the first that a search looks at delivers a letter that it comes to
-pub not_before : (setup : Setup) (entries : List Entry) (outage : OutageState) (event next letter : ℕ)
-    → IsSearched setup entries outage event next letter → is_delivered (take event entries) letter ≡ false
-not_before setup entries outage event next letter so_far = so_far.may.below letter so_far.behind
-
 -- ---- the events that a search need not look at
 
 -- where the first events do not deliver a letter, the others tell whether it was delivered
@@ -212,24 +208,13 @@ delivered-append entries entry letter is =
     list_any-append (λ (it : Entry). delivers letter it.event) entries (entry ∷ [])
     ∙ ap (λ (test : Bool). test || list_any (λ (it : Entry). delivers letter it.event) (entry ∷ [])) is
 
-get_append : {X : Type 0} (items more : List X) (index : ℕ) (item : X) → slice_get items index ≡ Some item
-    → slice_get (items ++ more) index ≡ Some item
-get_append [] more index item is = absurd cc
-get_append (first ∷ items) more zero item is = is
-get_append (first ∷ items) more (suc index) item is = get_append items more index item is
-
-numbered_append : {X : Type 0} (items more : List X) (number : ℕ) (item : X) → numbered items number ≡ Some item
-    → numbered (items ++ more) number ≡ Some item
-numbered_append items more zero item is = absurd cc
-numbered_append items more (suc index) item is = get_append items more index item is
-
 -- a letter that was sent keeps its number
 faulty-found : (setup : Setup) (letters more : List Letter) (number : ℕ) (found : Option Letter)
     → numbered letters number ≡ found → is_to_faulty setup found ≡ true
     → is_to_faulty setup (numbered (letters ++ more) number) ≡ true
 faulty-found setup letters more number None is faulty = absurd (false≢true faulty)
 faulty-found setup letters more number (Some letter) is faulty =
-    ap (is_to_faulty setup) (numbered_append letters more number letter is) ∙ faulty
+    ap (is_to_faulty setup) (numbered-append letters more number letter is) ∙ faulty
 
 letters-append : (entries : List Entry) (entry : Entry)
     → letters_of (entries ++ entry ∷ []) ≡ letters_of entries ++ letters_of (entry ∷ [])
@@ -293,16 +278,13 @@ begins_applied old new event lost begin (Ok made) ok err may = begins_after old 
 begins_applied old new event lost begin (Err why) ok err may =
     subst (λ (it : WorldState). MayBeginAt it.setup it.entries lost begin) (sym err) may
 
-leb_below : (letter lost : ℕ) → letter ≤ lost → nat_le letter lost ≡ true
-leb_below letter lost low = grind (arith, nat_tests)
-
 -- where all letters so far were lost, a search may begin behind them
 pub begins_lost : (setup : Setup) (entries : List Entry) (lost next : ℕ) → next ≡ lost + 1
     → MayBeginAt setup entries lost (begin_at 0 next)
 unfolding is_delivered
 begins_lost setup entries lost next is = record {
   is_letter = omega arith;
-  passed = λ letter one below. or_left _ _ (leb_below letter lost (omega arith));
+  passed = λ letter one below. or_left _ _ (le-leb letter lost (omega arith));
   within = omega arith;
   below = λ letter from. refl;
 }

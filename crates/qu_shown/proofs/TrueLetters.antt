@@ -50,7 +50,6 @@ use Rattle.qu_question.proofs.Marks.{each_remarked, unmarked-remarked, shown_in-
 use Rattle.qu_client.proofs.Cases.{IsRound, OfEach, IsOfHistories, step_cases, tick_cases, invoke_cases}
 use Rattle.qu_claims.specs.Carried.{Carries}
 use Rattle.qu_shown.specs.Views.{EachEntry}
-use Rattle.qu_world.proofs.Each.{each_weaker}
 use Rattle.qu_runs.proofs.Fits.Carrying.{AsksFit, AnswersFit, signed_carries}
 use Rattle.qu_runs.proofs.Fits.StepLetters.{on_frame_each}
 use Rattle.qu_frames.specs.Formats.{frame_kind}
@@ -58,6 +57,7 @@ use Rattle.qu_frames.specs.Signing.{brought, signed}
 use Rattle.qu_seal.specs.Keys.{Ring}
 use Rattle.qu_frames.proofs.Signed.{brought_is_decoded}
 use Rattle.qu_base.specs.declared.party.Party.{Party}
+use Rattle.qu_base.proofs.EachItem.{each_weaker}
 
 -- each history in the frame was held
 abbrev pub IsTrueFrame : (Sealed → Type 0) → Frame → Type 0

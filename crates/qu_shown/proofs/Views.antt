@@ -38,11 +38,11 @@ use Rattle.qu_claims.specs.Times.{world_after}
 use Rattle.qu_shown.specs.Views.{WasHeld, HeldIfCorrect, AreHeld}
 use Rattle.qu_runs.specs.Plain.{IsPlain, ArePlain, IsOfFaulty}
 use Rattle.qu_runs.proofs.Worlds.WorldGrowth.{world_after-none, world_after-next}
-use Rattle.qu_world.proofs.Each.{each_append, each_numbered, each_with_numbered, set_here}
+use Rattle.qu_world.proofs.Each.{each_numbered, each_with_numbered, set_here, numbered_here}
 use Rattle.qu_shown.proofs.OwnHistories.{IsInPlace, AreInPlace, step-in_place, opening-all_in_place, set-in_place, found_where_named}
 use Rattle.qu_shown.proofs.TrueLetters.{IsTrueFrame, IsTrueLetter, IsTrueClient, IsTrueStep, letters-more, clients-more, client_step-true, client_tick-true, client_invoke-true, opening-true, replica_step-true, ShowsHeld, shows_held}
 use Rattle.qu_runs.proofs.Small.{some_entry}
-use Rattle.qu_runs.proofs.Fits.Carrying.{AsksFit, AnswersFit, IsFitStep, numbered_here}
+use Rattle.qu_runs.proofs.Fits.Carrying.{AsksFit, AnswersFit, IsFitStep}
 use Rattle.qu_runs.proofs.Fits.Fitting.{fit_step}
 use Rattle.qu_seal.specs.Keys.{Ring}
 use Rattle.qu_runs.proofs.Events.Handing.{injected_cases}
@@ -50,10 +50,11 @@ use Rattle.qu_history.specs.Formats.{sealed_from, shown_form, object_after}
 use Rattle.qu_trace.specs.Faulty.{is_good, is_faulty}
 use Rattle.qu_frames.specs.Formats.{frame_form, kind_form, reply_frame}
 use Rattle.qu_base.specs.Format.{FitsFrom}
+use Rattle.qu_base.proofs.EachItem.{each_append}
 use Rattle.std.proofs.lemmas.Bool.{eqb-true, false≢true}
 use Rattle.qu_frames.specs.Signing.{sender}
 use Rattle.qu_frames.proofs.Signed.{brought_is_decoded}
-use Rattle.qu_frames.proofs.Decoded.{decoded_is_spelled}
+use Rattle.qu_frames.proofs.Decoded.{decoded_is_spelled, one_decoded}
 use Rattle.qu_runs.proofs.Digests.Plain.{setup_after}
 
 -- each history in a letter or with a client was held, and what the replicas have is in its place
@@ -265,12 +266,6 @@ unfolding frame_form kind_form reply_frame
 frame_of_faulty trace count (frame.Reply replica client number round verdict culled shown mac) faulty fits =
     shown_by_faulty trace count replica (ap not faulty) shown fits.1.1.1.1.1.1.1.1.0
 frame_of_faulty trace count _ faulty fits = tt
-
-pub one_decoded : (text : List ℕ) (first second : Frame) → decoded text ≡ Ok first → decoded text ≡ Ok second
-    → first ≡ second
-one_decoded text first second one other =
-    let same : Ok first ≡ Ok second = sym one ∙ other in
-    cc
 
 shown_of_faulty : (trace : Trace) (count later : ℕ) (to : Party) (text : List ℕ)
     → IsOfFaulty (world_after trace count) to text → (sent : Frame) → decoded text ≡ Ok sent

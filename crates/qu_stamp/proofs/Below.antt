@@ -12,7 +12,7 @@ both_equal Less later level = absurd (false≢true (ap is_eq level))
 both_equal Equal later level = (refl, level)
 both_equal Greater later level = absurd (false≢true (ap is_eq level))
 
-is_Less : (order : Ordering) → is_lt order ≡ true → order ≡ Less
+pub is_Less : (order : Ordering) → is_lt order ≡ true → order ≡ Less
 is_Less Less below = refl
 is_Less Equal below = absurd (false≢true below)
 is_Less Greater below = absurd (false≢true below)

@@ -2,7 +2,7 @@
 use Rattle.std.proofs.Common.{◌≡◌, ℕ, suc, ◌==◌, Bool, ◌||◌, true, false, List, [], ◌∷◌, length, Result, Ok, IsTrue, ◌<◌, ◌^◌, refl, sym, ap, ◌∙◌, arith, not}
 use Rattle.std.specs.Int.{w8, w16, w64}
 use Rattle.std.proofs.lemmas.Bool.Decides.{nat_tests}
-use Rattle.std.proofs.lemmas.Bool.{false≢true, and_parts, and_from, cond-true, cond-false, not-true, lt-ltb, le-leb}
+use Rattle.std.proofs.lemmas.Bool.{false≢true, and_parts, and_from, cond-true, lt-ltb, le-leb}
 use Rattle.qu_base.specs.declared.bad_text.Why.TheVariants.{Range, Order}
 use Rattle.qu_base.specs.declared.bad_text.BadText.{BadText}
 use Rattle.qu_base.specs.declared.limits.TheConstants.{OBJECT_IDS}
@@ -19,7 +19,7 @@ use Rattle.qu_stamp.specs.declared.candidate.Candidate.{Candidate}
 use Rattle.qu_stamp.proofs.Order.{equal_by_same_stamp}
 use Rattle.qu_stamp.specs.Stamp.{opening_stamp, is_below, same_stamp}
 use Rattle.qu_stamp.specs.Group.{is_group_size, are_members_from, is_group}
-use Rattle.qu_stamp.specs.Formats.{most_client, stamp_client_form, may_have_act, may_be_set, stamp_set_form, stamp_with, stamp_form, plain_stamp_form, object_from, member_form, spelled_member, after_member, may_be_size, members_form, lists_itself, group_form, is_below_or_opening, may_be_prior, prior_form, basis_form, candidate_with, candidate_form, spelled_candidate}
+use Rattle.qu_stamp.specs.Formats.{most_client, stamp_client_form, may_have_act, may_be_set, stamp_set_form, stamp_with, stamp_form, plain_stamp_form, object_from, member_form, spelled_member, after_member, may_be_size, members_form, lists_itself, group_form, is_below_or_opening, may_be_prior, prior_form, basis_form, candidate_with, candidate_form}
 
 most_client-fits : (time : ℕ) → most_client time < 2 ^ 16
 most_client-fits time = grind arith
@@ -87,12 +87,6 @@ pub candidate-exact : (object : ObjectId) → IsExact (candidate_form object)
 unfolding candidate_form
 candidate-exact object = candidate_with-exact object stamp_form (stamp_with-exact true)
 
--- a candidate is spelled so, whatever the format of its stamp tests
-pub candidate-spelled : (object : ObjectId) (candidate : Candidate)
-    → (candidate_form object).spell candidate ≡ spelled_candidate candidate
-unfolding candidate_form basis_form group_form members_form
-candidate-spelled object candidate = refl
-
 pub stamp_read : (result : Result Stamp BadText) (old new : Front) → AreBytes old.rest
     → Reads stamp_form result old new → IsRead stamp_form result old new
 stamp_read = read_exactly stamp_form (stamp_with-exact true)
@@ -147,22 +141,9 @@ prior_of_opening stamp prior fits is =
     sym (cond-true (same_stamp stamp opening_stamp) (same_stamp prior opening_stamp) (is_below prior stamp) is)
     ∙ parts.0
 
--- that of another stamp is below it
-pub prior_is_below : (stamp prior : Stamp) → (prior_form stamp).Fits prior
-    → same_stamp stamp opening_stamp ≡ false → is_below prior stamp ≡ true
-prior_is_below stamp prior fits is =
-    let parts = and_parts (is_below_or_opening stamp prior) (not prior.barrier) fits.1 in
-    sym (cond-false (same_stamp stamp opening_stamp) (same_stamp prior opening_stamp) (is_below prior stamp) is)
-    ∙ parts.0
-
--- and no barrier's
-pub prior_is_plain : (stamp prior : Stamp) → (prior_form stamp).Fits prior → prior.barrier ≡ false
-prior_is_plain stamp prior fits =
-    not-true _ ((and_parts (is_below_or_opening stamp prior) (not prior.barrier) fits.1).1)
-
 -- ---- what a group is
 
-some_size : (count : ℕ) → (suc count == 0) ≡ false
+pub some_size : (count : ℕ) → (suc count == 0) ≡ false
 some_size count = grind (arith, nat_tests)
 
 -- the opening candidate has none

@@ -10,7 +10,7 @@ use Rattle.std.specs.Cmp.{IsTotalOrder}
 use Rattle.std.specs.Cmp.Lexicographic.{slice_cmp, pointwise_decides}
 use Rattle.std.proofs.lemmas.Cmp.{nat_cmp_total, lists_total, on_total, then_total}
 use Rattle.std.proofs.lemmas.Map.Lookups.{CmpEqualImpliesEq, exact_unsigned}
-use Rattle.std.proofs.lemmas.Bool.{false≢true, and_parts, and_from, and_left, eq-eqb, eqb-true}
+use Rattle.std.proofs.lemmas.Bool.{false≢true, and_parts, and_from, and_left, eq-eqb, eqb-true, leb-true}
 use Rattle.std.proofs.lemmas.Bool.Decides.{nat_tests}
 use Rattle.std.proofs.lemmas.List.{drop_more, drop_all}
 use Rattle.qu_base.specs.declared.party.ObjectId.{ObjectId}
@@ -23,6 +23,9 @@ use Rattle.qu_stamp.specs.Group.{listed_time, is_group_size, is_member_from, are
 
 few_by_size : (count : ℕ) → is_group_size count ≡ true → count ≤ 4
 few_by_size count is = grind (arith, nat_tests)
+
+pub member_from : (least : ℕ) (member : ObjectId × ℕ) → is_member_from least member ≡ true → least ≤ (member.0).0
+member_from least member is = leb-true least (member.0).0 (and_parts _ _ is).0
 
 pub members_are_few : (group : List (ObjectId × ℕ)) → is_group group ≡ true → length group ≤ 4
 unfolding is_group

@@ -1,6 +1,6 @@
 -- The orders of stamps and of candidates are strict and total, and `same` tests whether two are equal.
 use mathlib.Core.Bool.{beq}
-use Rattle.std.proofs.Common.{◌≡◌, ℕ, Bool, ◌<◌, ◌≤◌, true, false, not, ◌&&◌, ◌||◌, List, [], ◌∷◌, length, inl, inr, refl, sym, ◌∙◌, ap, arith, None, Some}
+use Rattle.std.proofs.Common.{◌≡◌, ℕ, Bool, ◌<◌, true, false, not, ◌&&◌, ◌||◌, List, [], ◌∷◌, length, inl, inr, refl, sym, ◌∙◌, ap, arith, None, Some}
 use Rattle.std.specs.Prelude.{Option, ◌==◌, MatchOption, ⊤}
 use Rattle.std.specs.declared.cmp.Ordering.{Ordering}
 use Rattle.std.specs.declared.cmp.Ordering.TheVariants.{Less, Equal, Greater}
@@ -126,7 +126,7 @@ pub is_below-not_back : (a b : Stamp) → is_below a b ≡ true → is_below b a
 unfolding is_below
 is_below-not_back = lt-not_back stamp_cmp stamps_total
 
-decides_digest : (a b : Digest) → Decides (same_digest a b) (a ≡ b)
+pub decides_digest : (a b : Digest) → Decides (same_digest a b) (a ≡ b)
 decides_digest a b = (
   λ alike. ap digest_of_bytes ((bytes_decides a.0 b.0).0 alike),
   λ equal. (bytes_decides a.0 b.0).1 (ap (λ (digest : Digest). digest.0) equal),
@@ -231,14 +231,6 @@ is_below-opening a =
     (not_lt_then (nat_cmp (a.client).0 0) _ (not_lt_zero (a.client).0)
     (not_lt_then (option_cmp digest_cmp a.act None) _ (not_lt_None a.act) (not_lt_blank a.set))))
 
-pub same_stamp-below : (a b : Stamp) → is_below a b ≡ true → same_stamp a b ≡ false
-same_stamp-below a b below =
-    elim (cases_Bool (same_stamp a b)) [
-      | inl alike ↦ absurd
-          (false≢true (sym (is_below-self a) ∙ ap (is_below a) (equal_by_same_stamp a b alike) ∙ below))
-      | inr unlike ↦ unlike
-    ]
-
 less_decides : (a b : ℕ) (later : Ordering) → a < b → is_lt (ordering_then (nat_cmp a b) later) ≡ true
 less_decides a b later less = grind (arith, nat_tests)
 
@@ -246,13 +238,6 @@ less_decides a b later less = grind (arith, nat_tests)
 pub is_below_by_time : (a b : Stamp) → a.time < b.time → is_below a b ≡ true
 unfolding is_below stamp_cmp
 is_below_by_time a b earlier = less_decides a.time b.time _ earlier
-
-time_decides : (a b : ℕ) (later : Ordering) → is_lt (ordering_then (nat_cmp a b) later) ≡ true → a ≤ b
-time_decides a b later below = grind (arith, nat_tests)
-
-pub is_below-time : (a b : Stamp) → is_below a b ≡ true → a.time ≤ b.time
-unfolding is_below stamp_cmp
-is_below-time a b below = time_decides a.time b.time _ below
 
 -- ---- candidates
 

@@ -10,7 +10,7 @@ use Rattle.qu_frames.specs.declared.frame.Frame.{Frame}
 use Rattle.qu_frames.specs.declared.frame.Letter.{Letter}
 use Rattle.qu_trace.specs.declared.trace.Entry.{Entry}
 use Rattle.qu_trace.specs.Letters.{letters_of, offered_by}
-use Rattle.qu_trace.specs.Decoded.{frame_found, frame_sent, frame_numbered, frame_offered, frame_injected, frame_offered_at, IsFrameOf}
+use Rattle.qu_trace.specs.Decoded.{frame_found, frame_sent, frame_numbered, frame_offered, frame_offered_at, IsFrameOf}
 use Rattle.qu_trace.specs.Starts.{starts_from, start_behind}
 
 -- ---- what bytes are decoded to
@@ -32,14 +32,6 @@ frame_with entries number place is =
     ap (λ (it : Option (Option Frame)). option_flatten it) (slice_get-map frame_sent (letters_of entries) place)
     ∙ flat_mapped frame_sent (slice_get (letters_of entries) place)
     ∙ ap (λ (it : ℕ). frame_numbered entries it) (sym is)
-
-pub frame_injected_at : (entries : List Entry) (index : ℕ) (entry : Entry) → slice_get entries index ≡ Some entry
-    → option_flatten (slice_get (map (λ (it : Entry). frame_injected it.event) entries) index)
-    ≡ frame_injected entry.event
-frame_injected_at entries index entry is =
-    ap (λ (it : Option (Option Frame)). option_flatten it)
-    (slice_get-map (λ (it : Entry). frame_injected it.event) entries index
-    ∙ ap (option_map (λ (it : Entry). frame_injected it.event)) is)
 
 -- ---- the frames of an entry's letters
 

@@ -4,10 +4,11 @@ use Rattle.std.specs.List.{flat_map}
 use Rattle.std.proofs.lemmas.List.{take_more}
 use Rattle.std.proofs.lemmas.Grind.{flat_map-append}
 use Rattle.std.proofs.lemmas.List.Sums.{sum_by-append}
-use Rattle.std.specs.Prelude.{slice_get}
+use Rattle.std.specs.Prelude.{Some, slice_get}
+use Rattle.std.proofs.lemmas.Option.{none-some, slice_get_within}
 use Rattle.qu_trace.specs.declared.trace.Entry.{Entry}
 use Rattle.qu_frames.specs.declared.frame.Letter.{Letter}
-use Rattle.qu_trace.specs.Letters.{letters_of, bytes_of, bytes_sent}
+use Rattle.qu_trace.specs.Letters.{letters_of, numbered, bytes_of, bytes_sent}
 
 -- an item of the first list
 pub slice_get-append_left : {X : Type 0} (xs ys : List X) (k : ℕ) → k < length xs
@@ -15,6 +16,12 @@ pub slice_get-append_left : {X : Type 0} (xs ys : List X) (k : ℕ) → k < leng
 slice_get-append_left [] ys k within = absurd (omega arith)
 slice_get-append_left (x ∷ xs) ys zero within = refl
 slice_get-append_left (x ∷ xs) ys (suc k) within = slice_get-append_left xs ys k (omega arith)
+
+pub numbered-append : {X : Type 0} (items more : List X) (number : ℕ) (item : X) → numbered items number ≡ Some item
+    → numbered (items ++ more) number ≡ Some item
+numbered-append items more zero item found = absurd (none-some item found)
+numbered-append items more (suc place) item found =
+    slice_get-append_left items more place (slice_get_within items place item found) ∙ found
 
 -- an item of the second list
 pub slice_get-append_right : {X : Type 0} (xs ys : List X) (k rest : ℕ) → k ≡ length xs + rest

@@ -2,3 +2,4 @@ pub mod EarliestLaws
 pub mod LetterLaws
 pub mod StartLaws
 pub mod DecodedLaws
+pub mod Parties

@@ -7,6 +7,7 @@ use Rattle.std.proofs.lemmas.Bool.{cases_eq, lt-ltb, ltb-true}
 use Rattle.std.proofs.lemmas.List.{length-map, length-set}
 use Rattle.std.proofs.lemmas.Option.{slice_get-map, slice_get-get_or}
 use Rattle.qu_base.specs.declared.party.ObjectId.{ObjectId}
+use Rattle.qu_base.proofs.Numbered.{object_is}
 use Rattle.qu_stamp.specs.declared.candidate.Candidate.{Candidate}
 use Rattle.qu_stamp.specs.Candidate.{opening}
 use Rattle.qu_chain.specs.Laws.{Laws}
@@ -28,7 +29,6 @@ use Rattle.qu_objects.specs.Kind.{fresh_value}
 use Rattle.qu_objects.specs.Performing.{performed_values}
 use Rattle.qu_kept.specs.Performing.{row_by}
 use Rattle.qu_machine.specs.Machine.{act_values, with_values, values_at}
-use Rattle.qu_machine.proofs.Equalities.{object_is}
 use Rattle.qu_trace.specs.declared.trace.Trace.{Trace}
 use Rattle.qu_world.proofs.Each.{set_other}
 use Rattle.qu_claims.specs.RunSetting.{setting}

@@ -30,7 +30,7 @@ other_way a b differ = grind (arith, nat_tests)
 
 module _ {T : Type 0} where
   -- no vote of the replica, none that passes
-  none_for : (test : T → Bool) (replica : ReplicaId) (votes : List (Vote T)) → has_voted replica votes ≡ false
+  pub none_for : (test : T → Bool) (replica : ReplicaId) (votes : List (Vote T)) → has_voted replica votes ≡ false
       → list_any (is_for test replica.0) votes ≡ false
   none_for test replica [] none = refl
   none_for test replica (vote ∷ later) none = grind (arith, nat_tests, none_for test replica later)

@@ -1,19 +1,9 @@
 -- What holds of each item of a list, and where an item stands in it.
-use Rattle.std.proofs.Common.{◌≡◌, ◌≢◌, ◌⊎◌, ℕ, zero, suc, ◌<◌, List, [], ◌∷◌, ◌++◌, length, get_or, Some, refl, sym, ap, subst, arith, inl, inr}
+use Rattle.std.proofs.Common.{◌≡◌, ◌≢◌, ◌⊎◌, ℕ, zero, suc, ◌<◌, List, [], ◌∷◌, length, get_or, Some, refl, sym, ap, subst, arith, inl, inr}
 use Rattle.std.specs.Prelude.{slice_get, slice_set}
-use Rattle.std.specs.List.{AllByRecursion, AllZip}
+use Rattle.std.specs.List.{AllByRecursion}
 use Rattle.std.proofs.lemmas.Option.{none-some, same_Some}
 use Rattle.qu_world.specs.State.{numbered, with_numbered}
-
-pub each_weaker : {X : Type 0} (P Q : X → Type 0) (items : List X) → ((item : X) → P item → Q item)
-    → AllByRecursion P items → AllByRecursion Q items
-each_weaker P Q [] weaker each = tt
-each_weaker P Q (item ∷ later) weaker each = (weaker item each.0, each_weaker P Q later weaker each.1)
-
-pub each_append : {X : Type 0} (P : X → Type 0) (items more : List X) → AllByRecursion P items
-    → AllByRecursion P more → AllByRecursion P (items ++ more)
-each_append P [] more each others = others
-each_append P (item ∷ later) more each others = (each.0, each_append P later more each.1 others)
 
 pub each_set : {X : Type 0} (P : X → Type 0) (items : List X) (place : ℕ) (new : X) → AllByRecursion P items
     → P new → AllByRecursion P (slice_set items place new)
@@ -83,12 +73,8 @@ set_other (item ∷ later) (suc place) zero new apart = refl
 set_other (item ∷ later) (suc place) (suc other) new apart =
     set_other later place other new (λ same. apart (ap suc same))
 
-pub zip_found : {X Y : Type 0} (R : X → Y → Type 0) (firsts : List X) (seconds : List Y) (place : ℕ) (first : X)
-    (second : Y) → AllZip R firsts seconds → slice_get firsts place ≡ Some first
-    → slice_get seconds place ≡ Some second → R first second
-zip_found R [] seconds place first second each one two = absurd (none-some first one)
-zip_found R (x ∷ xs) [] place first second each one two = absurd (none-some second two)
-zip_found R (x ∷ xs) (y ∷ ys) zero first second each one two =
-    subst (R first) (same_Some y second two) (subst (λ it. R it y) (same_Some x first one) each.0)
-zip_found R (x ∷ xs) (y ∷ ys) (suc place) first second each one two =
-    zip_found R xs ys place first second each.1 one two
+-- and so under a number
+pub numbered_here : {X : Type 0} (items : List X) (number : ℕ) (old new : X) → numbered items number ≡ Some old
+    → numbered (with_numbered items number new) number ≡ Some new
+numbered_here items zero old new found = absurd (none-some old found)
+numbered_here items (suc place) old new found = set_here items place old new found

@@ -1,5 +1,4 @@
 pub mod Each
-pub mod Injecting
 pub mod Moving
 pub mod OpeningLaws
 pub mod Steps

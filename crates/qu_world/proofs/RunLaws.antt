@@ -9,6 +9,7 @@ use Rattle.qu_base.specs.declared.party.ClientId.{ClientId}
 use Rattle.qu_base.specs.declared.party.ReplicaId.{ReplicaId}
 use Rattle.qu_base.specs.declared.party.Party.{Party}
 use Rattle.qu_base.specs.declared.party.Party.TheVariants as party
+use Rattle.qu_base.proofs.EachItem.{each_weaker}
 use Rattle.qu_seal.specs.Keys.{Ring}
 use Rattle.qu_frames.specs.declared.frame.Letter.{Letter}
 use Rattle.qu_rows.specs.State.{ReplicaState}
@@ -31,7 +32,7 @@ use Rattle.qu_world.specs.Step.{moved, world_step, at_client, at_replica, receiv
 use Rattle.qu_world.specs.Refusals.{cause_of, limit_at, refused_invocation}
 use Rattle.qu_world.specs.Parties.{MayBegin, CanBegin}
 use Rattle.qu_world.specs.Run.{bar_of, run_from, run, MayHappen, events_of, IsSetup, IsWorld, IsCounted}
-use Rattle.qu_world.proofs.Each.{each_weaker, each_with_numbered, each_numbered}
+use Rattle.qu_world.proofs.Each.{each_with_numbered, each_numbered}
 
 -- ---- one event more
 
@@ -236,7 +237,7 @@ numbers_world world is =
 
 -- ---- what may happen
 
-idle_by : (work : Option Work) → cond (is_some work) (Some fails.Busy) None ≡ None → work ≡ None
+pub idle_by : (work : Option Work) → cond (is_some work) (Some fails.Busy) None ≡ None → work ≡ None
 idle_by None free = refl
 idle_by (Some work) free = absurd cc
 

@@ -1,6 +1,5 @@
 pub mod State
 pub mod Step
-pub mod Effects
 pub mod Parties
 pub mod Refusals
 pub mod Growth

@@ -1,13 +1,13 @@
 -- The handled acts besides the queries, one act after another.
-use Rattle.std.proofs.Common.{◌≡◌, ◌⊎◌, ℕ, ◌+◌, ◌<◌, ◌≤◌, Bool, true, false, cond, List, [], ◌∷◌, ◌++◌, length, get_or, take, sym, ap, subst, ◌∙◌, arith, inl, inr}
+use Rattle.std.proofs.Common.{◌≡◌, ◌⊎◌, ℕ, ◌+◌, ◌<◌, Bool, true, false, cond, List, [], ◌∷◌, ◌++◌, length, get_or, take, sym, ap, subst, ◌∙◌, inl, inr}
 use Rattle.std.specs.Prelude.{Contains}
-use Rattle.std.specs.List.{All, AllPairs, list_any}
+use Rattle.std.specs.List.{All, list_any}
 use Rattle.std.proofs.lemmas.Bool.{false≢true, cases_Bool}
-use Rattle.std.proofs.lemmas.List.{take_more, take_all, append-nil}
+use Rattle.std.proofs.lemmas.List.{take_more, append-nil}
 use Rattle.std.proofs.lemmas.List.Elements.{All-contains, All-take, Contains-append_left, Contains-push, Contains-push_cases, Contains-get_or}
 use Rattle.std.proofs.lemmas.List.Quantifiers.{all_pairs_push}
+use Rattle.qu_base.proofs.Numbered.{client_is}
 use Rattle.qu_machine.specs.declared.record.OpRecord.{OpRecord}
-use Rattle.qu_machine.proofs.Equalities.{client_is}
 use Rattle.qu_claims.specs.Order.{op_bytes}
 use Rattle.qu_points.specs.Points.{NamedAct, is_named_act, is_query, as_operation, AreDistinct, IsActOf, AddsActs, new_act, ActFits}
 use Rattle.qu_points.proofs.Handled.Bodies.{one_body, no_query}
@@ -15,19 +15,6 @@ use Rattle.qu_points.proofs.Handled.HandledActs.{listed, among}
 
 abbrev is_among : NamedAct → List NamedAct → Bool
 is_among act acts = list_any (is_named_act act.0 act.1 act.2) acts
-
-nothing : {X : Type 0} {P : Type 0} {x : X} → Contains [] x → P
-nothing held =
-    let below : held.0 < 0 = held.1 in
-    absurd (omega arith)
-
-pub adds_none : (operations : List OpRecord) → AllPairs AreDistinct operations → AddsActs [] operations operations
-adds_none operations distinct = record {
-  distinct = distinct;
-  sound = λ operation held. inl held;
-  kept = λ operation held. held;
-  complete = λ act held. nothing held;
-}
 
 act_later : (before : List NamedAct) (act : NamedAct) (operation : OpRecord)
     → IsActOf before operation → IsActOf (before ++ act ∷ []) operation
@@ -131,8 +118,3 @@ adds_more acts index act old operations new queries fit below is adds added =
     (subst ActFits (sym is) (All-contains ActFits acts (get_or acts index act) fit
     (Contains-get_or acts index act below)))
     new added)
-
-pub adds_all : (acts : List NamedAct) (index : ℕ) (old operations : List OpRecord) → length acts ≤ index
-    → AddsActs (take index acts) old operations → AddsActs acts old operations
-adds_all acts index old operations past adds =
-    subst (λ (these : List NamedAct). AddsActs these old operations) (take_all index acts past) adds

@@ -7,11 +7,12 @@ use Rattle.std.proofs.lemmas.List.Elements.{Contains-append_cases, Contains-appe
 use Rattle.std.proofs.lemmas.Option.{none-some, same_Some}
 use Rattle.qu_base.specs.declared.party.ClientId.{ClientId}
 use Rattle.qu_base.specs.declared.party.ObjectId.{ObjectId}
+use Rattle.qu_base.proofs.Numbered.{client_is}
 use Rattle.qu_history.specs.declared.sets.SetOf.{SetOf}
 use Rattle.qu_objects.specs.declared.act.Method.{Method}
 use Rattle.qu_objects.specs.declared.op.Op.TheVariants as op
 use Rattle.qu_machine.specs.PointTests.{same_op}
-use Rattle.qu_machine.proofs.Equalities.{Passes, passes_from_any, decides_op, client_is}
+use Rattle.qu_machine.proofs.Equalities.{Passes, passes_from_any, decides_op}
 use Rattle.qu_frames.specs.declared.frame.Body.{Body}
 use Rattle.qu_frames.specs.declared.frame.Body.TheVariants as body
 use Rattle.qu_trace.specs.declared.trace.Trace.{Trace}

@@ -1,10 +1,9 @@
 -- Each letter that a client of a run sends is signed for its receiver, so that its HMAC is right.
 use Rattle.std.proofs.Common.{◌≡◌, ℕ, zero, suc, ◌+◌, ◌<◌, ◌≤◌, true, List, [], ◌∷◌, ◌++◌, length, get_or, Option, None, Some, Ok, refl, sym, ap, subst, ◌∙◌, arith, add-one, inl, inr}
-use Rattle.std.specs.Prelude.{slice_get, nat_le, nat_lt, IfSome}
+use Rattle.std.specs.Prelude.{slice_get, IfSome}
 use Rattle.std.specs.List.{AllByRecursion}
 use Rattle.std.specs.Cmp.Lexicographic.{bytes_decides}
-use Rattle.std.proofs.lemmas.Bool.{false≢true, and_from}
-use Rattle.std.proofs.lemmas.Bool.Decides.{nat_tests}
+use Rattle.std.proofs.lemmas.Bool.{false≢true, and_from, le-leb, lt-ltb}
 use Rattle.std.proofs.lemmas.List.{append_cancel_left, take_all}
 use Rattle.std.proofs.lemmas.Option.{none-some}
 use Rattle.qu_base.specs.Bounds.{replicas}
@@ -13,17 +12,17 @@ use Rattle.qu_base.specs.declared.party.ClientId.{ClientId}
 use Rattle.qu_base.specs.declared.party.Party.{Party}
 use Rattle.qu_base.specs.declared.party.Party.TheVariants as party
 use Rattle.qu_base.specs.declared.party.ReplicaId.{ReplicaId}
+use Rattle.qu_base.proofs.EachItem.{each_append, each_weaker}
 use Rattle.qu_seal.specs.declared.constants.TheConstants.{FRAME_TAG}
 use Rattle.qu_seal.specs.Digesting.{digest_of}
 use Rattle.qu_seal.specs.Keys.{Ring, has_party, have_key, seal_of, verifies}
-use Rattle.qu_seal.proofs.Lengths.{length-hmac}
 use Rattle.qu_frames.specs.declared.frame.Frame.{Frame}
 use Rattle.qu_frames.specs.declared.frame.Letter.{Letter}
 use Rattle.qu_frames.specs.Decoding.{decoded}
 use Rattle.qu_frames.specs.Formats.{frame_form}
 use Rattle.qu_frames.specs.Signing.{sender, mac_of, before_mac, text_digest, signature, signed, is_signed}
 use Rattle.qu_frames.proofs.Decoded.{decoded_is_spelled}
-use Rattle.qu_frames.proofs.Signed.{fields_of, spelled_fields, without, mac_fits}
+use Rattle.qu_frames.proofs.Signed.{fields_of, spelled_fields, without, mac_fits, signature_sized}
 use Rattle.qu_rows.specs.State.{ReplicaState}
 use Rattle.qu_replica.specs.Step.{replica_step}
 use Rattle.qu_client.specs.declared.state.ClientState.{ClientState}
@@ -43,7 +42,7 @@ use Rattle.qu_trace.proofs.LetterLaws.{letters-push}
 use Rattle.qu_world.specs.State.{WorldState, ring_of, letter_of, opening_clients}
 use Rattle.qu_world.specs.Step.{world_step, unchanged, moved, at_replica, at_client, received, delivered}
 use Rattle.qu_world.specs.Run.{IsRun}
-use Rattle.qu_world.proofs.Each.{each_append, each_weaker, each_numbered, with_cases}
+use Rattle.qu_world.proofs.Each.{each_numbered, with_cases}
 use Rattle.qu_world.proofs.Steps.{step_cases}
 use Rattle.qu_claims.specs.Times.{world_after}
 use Rattle.qu_runs.proofs.Events.Recording.{entries_after}
@@ -54,17 +53,7 @@ use Rattle.qu_runs.proofs.Worlds.WorldGrowth.{world_after-none, world_after-next
 use Rattle.qu_points.specs.Signed.{IsSignedBy, client_in}
 use Rattle.qu_points.proofs.Senders.{IsOfReplica, replica_sends}
 
-is_le : (first second : ℕ) → first ≤ second → nat_le first second ≡ true
-is_le first second few = grind (arith, nat_tests)
-
-is_lt : (first second : ℕ) → first < second → nat_lt first second ≡ true
-is_lt first second few = grind (arith, nat_tests)
-
 -- ---- a text that is signed
-
-signature_sized : (ring : Ring) (to : Party) (frame : Frame) → length (signature ring to frame) ≡ 32
-unfolding seal_of
-signature_sized ring to frame = length-hmac _ _
 
 -- the HMAC of a signed text is right, whatever is decoded of it
 pub own_is_signed : (ring : Ring) (from to : Party) (text : List ℕ) (frame : Frame) → AreBytes text
@@ -124,7 +113,7 @@ opening_parties : (ring : Ring) → AreParties ring (opening_clients 1 ring.clie
 opening_parties ring zero state found = absurd (none-some state found)
 opening_parties ring (suc place) state found =
     let below : place < ring.clients = opening_below 1 ring.clients ring place state found in
-    and_from _ _ (is_le 1 (suc place) (omega arith)) (is_le (suc place) ring.clients (omega (arith, below)))
+    and_from _ _ (le-leb 1 (suc place) (omega arith)) (le-leb (suc place) ring.clients (omega (arith, below)))
 
 -- the requests of a client of the ring
 requests_own : (ring : Ring) (number : ℕ) (state : ClientState) → HasKeys ring number state
@@ -141,7 +130,7 @@ requests_own ring number state keyed of work whom =
       is = ap (λ (it : Ring). signed it (party.Replica (record { 0 = to })) (request_of state.me work)) keyed.keys_are;
       of = refl;
       key = and_from _ _ (ap (λ (it : ClientId). has_party ring (party.Client it)) keyed.me ∙ of)
-          (and_from _ _ (is_lt to (replicas ring.bounds) few) refl);
+          (and_from _ _ (lt-ltb to (replicas ring.bounds) few) refl);
     })
 
 -- ---- worlds

@@ -1,8 +1,8 @@
 -- The operations of a trace differ in client or number.
 use Rattle.std.proofs.Common.{◌<◌, get_or, arith}
 use Rattle.std.specs.List.{AllPairs}
+use Rattle.qu_base.proofs.Numbered.{client_is}
 use Rattle.qu_machine.specs.declared.record.OpRecord.{OpRecord}
-use Rattle.qu_machine.proofs.Equalities.{client_is}
 use Rattle.qu_trace.specs.declared.trace.Trace.{Trace}
 use Rattle.qu_trace.specs.Operation.{operations_of}
 use Rattle.qu_points.specs.Points.{AreApart, AreDistinct}

@@ -6,6 +6,7 @@ use Rattle.std.proofs.lemmas.List.{get_or-map, length-map}
 use Rattle.std.proofs.lemmas.List.Kept.{AllPairs-from_increasing}
 use Rattle.std.proofs.lemmas.Option.{slice_get_cases, slice_get-get_or, slice_get_within, get_or_from_slice_get}
 use Rattle.qu_base.specs.declared.party.ObjectId.{ObjectId}
+use Rattle.qu_base.proofs.Items.{contains_at}
 use Rattle.qu_objects.specs.declared.act.Method.{Method}
 use Rattle.qu_objects.specs.declared.kind.KindName.{KindName}
 use Rattle.qu_objects.specs.declared.kind.Value.{Value}
@@ -15,7 +16,7 @@ use Rattle.qu_objects.specs.Kind.{fresh_value}
 use Rattle.qu_machine.specs.declared.record.Point.{Point}
 use Rattle.qu_machine.specs.Machine.{act_values}
 use Rattle.qu_machine.specs.Serial.{IsRising, op_values, values_after}
-use Rattle.qu_machine.proofs.Firsts.{contains_at, at_contains, one_at}
+use Rattle.qu_machine.proofs.Firsts.{at_contains, one_at}
 use Rattle.qu_machine.proofs.Running.{values_none, values_more}
 
 abbrev pub IsQuestion : Op → Type 0

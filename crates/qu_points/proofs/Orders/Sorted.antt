@@ -2,16 +2,16 @@
 use Rattle.std.proofs.Common.{◌≡◌, ◌⊎◌, zero, suc, ◌<◌, true, false, not, List, [], ◌∷◌, ◌++◌, length, take, drop, refl, sym, ap, subst, ◌∙◌, arith, inl, inr}
 use Rattle.std.proofs.Math.Numerals.{one-add}
 use Rattle.std.specs.Prelude.{Contains}
-use Rattle.std.specs.List.{All, position_or_len}
+use Rattle.std.specs.List.{position_or_len}
 use Rattle.std.proofs.lemmas.Bool.{false≢true, cases_Bool, and_parts, and_from}
 use Rattle.std.specs.declared.cmp.Ordering.{Ordering}
 use Rattle.std.specs.declared.cmp.Ordering.TheVariants.{Less, Equal, Greater}
-use Rattle.std.specs.Ordering.{nat_cmp, ordering_then, ordering_reverse, is_lt, is_eq}
+use Rattle.std.specs.Ordering.{nat_cmp, ordering_reverse, is_lt}
 use Rattle.std.specs.Cmp.{IsTotalOrder}
 use Rattle.std.specs.Cmp.Lexicographic.{slice_cmp}
 use Rattle.std.proofs.lemmas.Cmp.{nat_cmp_total, nat_list_cmp_total, on_total, then_total, tied_itself}
 use Rattle.std.proofs.lemmas.Map.Lookups.{exact_unsigned, exact_bytes}
-use Rattle.std.proofs.lemmas.List.Elements.{All-nil, All-cons}
+use Rattle.qu_stamp.proofs.Below.{is_Less, both_equal}
 use Rattle.qu_machine.specs.declared.record.Point.{Point}
 use Rattle.qu_claims.specs.Order.{op_bytes, point_cmp, is_earlier, are_in_order}
 use Rattle.qu_points.specs.Points.{with_point}
@@ -28,11 +28,6 @@ points_total =
     (then_total (on_total (λ (point : Point). point.number) nat_cmp_total)
     (on_total (λ (point : Point). op_bytes point.op) nat_list_cmp_total)))
 
-is_Less : (order : Ordering) → is_lt order ≡ true → order ≡ Less
-is_Less Less less = refl
-is_Less Equal less = absurd (false≢true less)
-is_Less Greater less = absurd (false≢true less)
-
 pub is_earlier-self : (a : Point) → is_earlier a a ≡ false
 is_earlier-self a = ap is_lt (tied_itself points_total a)
 
@@ -40,23 +35,11 @@ pub is_earlier-chain : (a b c : Point) → is_earlier a b ≡ true → is_earlie
 is_earlier-chain a b c ab bc =
     ap is_lt (points_total.trans a b c (is_Less (point_cmp a b) ab) (is_Less (point_cmp b c) bc))
 
-is_earlier-not_back : (a b : Point) → is_earlier a b ≡ true → is_earlier b a ≡ false
-is_earlier-not_back a b ab =
-    elim (cases_Bool (is_earlier b a)) [
-      | inl back ↦ absurd (false≢true (sym (is_earlier-self a) ∙ is_earlier-chain a b a ab back))
-      | inr not_back ↦ not_back
-    ]
-
 -- neither is earlier
 level : (order : Ordering) → is_lt order ≡ false → is_lt (ordering_reverse order) ≡ false → order ≡ Equal
 level Less one two = absurd (false≢true (sym one))
 level Equal one two = refl
 level Greater one two = absurd (false≢true (sym two))
-
-both_equal : (first later : Ordering) → ordering_then first later ≡ Equal → (first ≡ Equal) × (later ≡ Equal)
-both_equal Less later is = absurd (false≢true (ap is_eq is))
-both_equal Equal later is = (refl, is)
-both_equal Greater later is = absurd (false≢true (ap is_eq is))
 
 -- two points that differ in client, number or what is asked for are one before the other
 pub is_earlier-other : (a b : Point) → is_earlier a b ≡ false
@@ -95,13 +78,6 @@ contains_none : (point : Point) → Contains [] point → ⊥
 contains_none point held =
     let below : held.0 < 0 = held.1 in
     absurd (omega arith)
-
-all_by_contains : (P : Point → Type 0) (points : List Point) → ((point : Point) → Contains points point → P point)
-    → All P points
-all_by_contains P [] each = All-nil P
-all_by_contains P (first ∷ later) each =
-    All-cons P first later (each first (contains_first first later))
-    (all_by_contains P later (λ point held. each point (contains_later first later point held)))
 
 -- ---- a point in its place
 
@@ -192,55 +168,3 @@ with_point-place point (first ∷ later) =
       | inl before ↦ rw (before, one-add) (ap (λ (points : List Point). first ∷ points) (with_point-place point later))
       | inr after ↦ rw after refl
     ]
-
--- ---- one list
-
-below_all : (first : Point) (later : List Point) → are_in_order (first ∷ later) ≡ true → (point : Point)
-    → Contains later point → is_earlier first point ≡ true
-below_all first [] order point held = absurd (contains_none point held)
-below_all first (second ∷ later) order point held =
-    let parts : (is_earlier first second ≡ true) × (are_in_order (second ∷ later) ≡ true) =
-    in_order_parts first second later order in
-    elim (contains_cases second later point held) [
-      | inl is ↦ ap (is_earlier first) (sym is) ∙ parts.0
-      | inr there ↦ is_earlier-chain first second point parts.0 (below_all second later parts.1 point there)
-    ]
-
-same_first : (a b : Point) (more bs : List Point) → are_in_order (a ∷ more) ≡ true → are_in_order (b ∷ bs) ≡ true
-    → Contains (b ∷ bs) a → Contains (a ∷ more) b → a ≡ b
-same_first a b more bs order_a order_b a_in b_in =
-    elim (contains_cases b bs a a_in) [
-      | inl is ↦ sym is
-      | inr a_later ↦ elim (contains_cases a more b b_in) [
-        | inl is ↦ is
-        | inr b_later ↦ absurd
-            (false≢true (sym (is_earlier-not_back b a (below_all b bs order_b a a_later))
-            ∙ below_all a more order_a b b_later))
-      ]
-    ]
-
-rest_in : (a b : Point) (more bs : List Point) → a ≡ b → are_in_order (a ∷ more) ≡ true
-    → ((point : Point) → Contains (a ∷ more) point → Contains (b ∷ bs) point) → (point : Point)
-    → Contains more point → Contains bs point
-rest_in a b more bs same order within point held =
-    elim (contains_cases b bs point (within point (contains_later a more point held))) [
-      | inl is ↦
-          let itself : point ≡ a = sym is ∙ sym same in
-          absurd (false≢true (sym (is_earlier-self a) ∙ ap (is_earlier a) (sym itself)
-          ∙ below_all a more order point held))
-      | inr there ↦ there
-    ]
-
--- two lists in order with the same members are equal
-pub one_order : (first second : List Point) → are_in_order first ≡ true → are_in_order second ≡ true
-    → ((point : Point) → Contains first point → Contains second point)
-    → ((point : Point) → Contains second point → Contains first point) → first ≡ second
-one_order [] [] order_a order_b to from = refl
-one_order [] (b ∷ bs) order_a order_b to from = absurd (contains_none b (from b (contains_first b bs)))
-one_order (a ∷ more) [] order_a order_b to from = absurd (contains_none a (to a (contains_first a more)))
-one_order (a ∷ more) (b ∷ bs) order_a order_b to from =
-    let same : a ≡ b = same_first a b more bs order_a order_b (to a (contains_first a more))
-    (from b (contains_first b bs)) in
-    let rest : more ≡ bs = one_order more bs (in_order_tail a more order_a) (in_order_tail b bs order_b)
-    (rest_in a b more bs same order_a to) (rest_in b a bs more (sym same) order_b from) in
-    cc

@@ -3,7 +3,6 @@ use Rattle.std.proofs.Common.{◌≡◌, ℕ, zero, suc, ◌+◌, ◌<◌, ◌�
 use Rattle.std.specs.Prelude.{position, slice_get, option_map, ◌==◌, ◌&&◌, Result, Ok, Err, IfOk}
 use Rattle.std.specs.Option.{MatchOption, option_eq}
 use Rattle.std.proofs.lemmas.Bool.{false≢true, cases_Bool, cases_lt, cases_order, and_parts, and_from, eq-eqb}
-use Rattle.std.proofs.lemmas.Bool.Decides.{nat_tests}
 use Rattle.std.proofs.lemmas.List.Quantifiers.{position-Some}
 use Rattle.std.proofs.lemmas.Option.{none-some, same_Some}
 use Rattle.qu_base.specs.declared.party.ClientId.{ClientId}
@@ -21,6 +20,7 @@ use Rattle.qu_trace.specs.Earliest.{IsUpTo}
 use Rattle.qu_trace.specs.declared.trace.Trace.{Trace}
 use Rattle.qu_world.specs.State.{numbered}
 use Rattle.qu_base.specs.declared.party.Digest.{Digest}
+use Rattle.qu_base.proofs.Numbered.{tested_client}
 use Rattle.qu_objects.specs.Digesting.{act_digest}
 use Rattle.qu_stamp.specs.Stamp.{same_digest}
 use Rattle.qu_stamp.proofs.Order.{same_act-self, equal_by_same_act}
@@ -124,15 +124,12 @@ module _ (trace : Trace) (tracked : List Tracked) (tracks : Tracks trace (length
           named = on.0;
           candidate = has.found.candidate;
           is_decided = first.1;
-          of_client = same_client has.found.candidate.stamp.client client of.0;
+          of_client = tested_client has.found.candidate.stamp.client client of.0;
           of_act = equal_by_same_act has.found.candidate.stamp.act (Some digest) of.1;
         };
         not_before = λ earlier before took. not_earlier event is earlier before (took_marks earlier (omega arith) took);
       }
     where
-      same_client : (first second : ClientId) → (first.0 == second.0) ≡ true → first ≡ second
-      same_client first second alike = grind (arith, nat_tests)
-
       not_earlier : (event : ℕ) → first_mark client parts digest tracked ≡ Some event → (earlier : ℕ) → earlier < event
           → IsUpTo (first_mark client parts digest tracked) earlier → ⊥
       not_earlier event is earlier before up_to =
@@ -374,5 +371,3 @@ pub unanswered : (trace : Trace) (client : ClientId) (number reply : ℕ) (found
     → IsAnswer trace client number reply found
 unanswered trace client number reply found none is =
     subst (IsAnswer trace client number reply) (sym is) (answers_never trace client number reply (sym none))
-
--- ---- an entry after the other

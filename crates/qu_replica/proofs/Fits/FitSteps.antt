@@ -1,5 +1,5 @@
 -- The letters that answer a text carry frames that fit, and what the replica holds fits after each step.
-use Rattle.std.proofs.Common.{◌≡◌, ℕ, ◌-◌, ◌^◌, ◌≤◌, Bool, true, false, cond, length, List, [], ◌∷◌, map, Option, None, Some, refl, subst, arith, set, option_map, ◌++◌, ◌∙◌, zero, suc, ◌+◌, inl, inr, sym, ap}
+use Rattle.std.proofs.Common.{◌≡◌, ℕ, ◌-◌, ◌^◌, ◌≤◌, Bool, true, false, cond, length, List, [], ◌∷◌, map, Option, None, Some, refl, subst, arith, set, option_map, ◌∙◌, zero, suc, ◌+◌, inl, inr, sym, ap}
 use Rattle.std.specs.Prelude.{is_none, slice_get, ◌==◌}
 use Rattle.std.specs.List.{cons_option, AllByRecursion}
 use Rattle.std.proofs.lemmas.Bool.{le-leb, leb-true, eq-eqb, cond_both, cases_Bool}
@@ -52,6 +52,7 @@ use Rattle.qu_seal.specs.Keys.{Ring}
 use Rattle.qu_waiting.specs.Waiting.{Waiting, TakenRequest, Running, request_frame_of}
 use Rattle.qu_base.specs.declared.party.Party.{Party}
 use Rattle.qu_base.specs.Bounds.{replicas}
+use Rattle.qu_base.proofs.EachItem.{each_append}
 use Rattle.qu_objects.specs.States.{state_form}
 
 -- ---- a reply
@@ -164,11 +165,6 @@ module _ (state : ReplicaState) (fits : StateFits state) where
 
 -- ---- a step
 
-all_append : {X : Type 0} (P : X → Type 0) (items more : List X) → AllByRecursion P items → AllByRecursion P more
-    → AllByRecursion P (items ++ more)
-all_append P [] more all last = last
-all_append P (item ∷ items) more all last = (all.0, all_append P items more all.1 last)
-
 -- a fetch of such a key
 fetch-fits : (me : ReplicaId) (key : ObjectId × Stamp) → me.0 ≤ REPLICA_IDS - 1 → KeyFits key
     → frame_form.Fits (frame.Fetch me key.0 key.1 blank_mac)
@@ -201,7 +197,7 @@ module _ (keys : Ring) (me : ReplicaId) (within : me.0 ≤ REPLICA_IDS - 1) wher
   unfolding fetches_of
   fetches_of-fit [] fits = tt
   fetches_of-fit (key ∷ later) fits =
-      all_append LetterFits _ _ (fetches_from-fit key fits.0 0 (replicas keys.bounds)) (fetches_of-fit later fits.1)
+      each_append LetterFits _ _ (fetches_from-fit key fits.0 0 (replicas keys.bounds)) (fetches_of-fit later fits.1)
 
 -- ---- what waits
 
@@ -281,7 +277,7 @@ if_handled-fits state None fits within = (fits, tt)
 if_handled-fits state (Some request) fits within = decided-fits state request fits (within request refl)
 
 -- a version that is held answers a fetch that fits
-fetched_fits : (state : ReplicaState) (to : ReplicaId) (object : ObjectId) (stamp : Stamp) (mac : List ℕ)
+pub fetched_fits : (state : ReplicaState) (to : ReplicaId) (object : ObjectId) (stamp : Stamp) (mac : List ℕ)
     (version : ObjState) → StateFits state → frame_form.Fits (frame.Fetch to object stamp mac) → VersionFits version
     → frame_form.Fits (frame.Fetched state.me object stamp version blank_mac)
 unfolding frame_form kind_form fetch_frame fetched_frame
@@ -321,7 +317,7 @@ version_letters-fit state to object stamp mac fits within = by (version_at objec
 
 -- ---- what a frame tells, and the request that it makes a replica handle
 
-fetched_state : (replica : ReplicaId) (object : ObjectId) (stamp : Stamp) (version : ObjState) (mac : List ℕ)
+pub fetched_state : (replica : ReplicaId) (object : ObjectId) (stamp : Stamp) (version : ObjState) (mac : List ℕ)
     → frame_form.Fits (frame.Fetched replica object stamp version mac) → state_form.Fits version
 unfolding frame_form kind_form fetched_frame
 fetched_state replica object stamp version mac fits = ((((fits.1).1).1).1).1.0

@@ -120,10 +120,6 @@ module _ (state : ReplicaState) (replica : ReplicaId) (object : ObjectId) (stamp
       → replica_on_frame state (frame.Fetched replica object stamp version mac) ≡ made_by of_kind found
   by_tests of_kind found kind_is found_is = λ i. made_by (kind_is i) (found_is i)
 
-  pub fetched_other : has_kind (slice_get state.kinds object.0) version.value ≡ false
-      → replica_on_frame state (frame.Fetched replica object stamp version mac) ≡ (state, [])
-  fetched_other other = by_tests false _ other refl
-
   pub fetched_unasked : fetch_under object stamp state.fetching ≡ None
       → replica_on_frame state (frame.Fetched replica object stamp version mac) ≡ (state, [])
   fetched_unasked none =

@@ -1,5 +1,5 @@
 -- What a text makes of a replica.
-use Rattle.std.proofs.Common.{◌≡◌, ℕ, List, [], None, Some, ap}
+use Rattle.std.proofs.Common.{◌≡◌, ℕ, List, Some, ap}
 use Rattle.qu_base.specs.declared.party.Party.TheVariants as party
 use Rattle.qu_frames.specs.declared.frame.Frame.{Frame}
 use Rattle.qu_frames.specs.Signing.{brought}
@@ -11,10 +11,3 @@ pub step_of_frame : (state : ReplicaState) (text : List ℕ) (frame : Frame)
     → brought state.keys (party.Replica state.me) text ≡ Some frame → replica_step state text
     ≡ replica_on_frame state frame
 step_of_frame state text frame is = ap (replica_on_received state) is
-
--- a text that brings none is ignored
-pub step_of_none : (state : ReplicaState) (text : List ℕ) → brought state.keys (party.Replica state.me)
-    text ≡ None → replica_step state text ≡ (state, [])
-step_of_none state text is = ap (replica_on_received state) is
-
-pub ruleset step_laws = (step_of_frame, step_of_none)

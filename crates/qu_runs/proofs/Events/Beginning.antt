@@ -1,7 +1,8 @@
 -- The operation that a client begins at an event is one of the trace, and the client was free to begin it.
 use Rattle.qu_world.proofs.Steps.{is_invoked, barred_as_refused}
+use Rattle.qu_world.proofs.RunLaws.{idle_by}
 use Rattle.std.proofs.Common.{◌≡◌, ℕ, zero, suc, ◌+◌, ◌<◌, Bool, false, cond, List, [], ◌∷◌, ◌++◌, length, take, drop, get_or, Option, None, Some, refl, sym, ap, subst, ◌∙◌, append_assoc, arith}
-use Rattle.std.specs.Prelude.{Contains, is_some}
+use Rattle.std.specs.Prelude.{Contains}
 use Rattle.std.proofs.lemmas.Bool.{eq-eqb}
 use Rattle.std.proofs.lemmas.List.{take_more, append-nil}
 use Rattle.std.proofs.lemmas.List.Sums.{sum_by_push}
@@ -11,7 +12,6 @@ use Rattle.qu_base.specs.declared.party.Party.TheVariants as party
 use Rattle.qu_objects.specs.declared.op.Op.{Op}
 use Rattle.qu_machine.specs.declared.record.OpRecord.{OpRecord}
 use Rattle.qu_client.specs.declared.state.ClientState.{ClientState}
-use Rattle.qu_client.specs.declared.work.Work.{Work}
 use Rattle.qu_trace.specs.declared.event.Event.{Event}
 use Rattle.qu_trace.specs.declared.event.Event.TheVariants.{Invoke}
 use Rattle.qu_trace.specs.declared.trace.Entry.{Entry}
@@ -19,7 +19,6 @@ use Rattle.qu_trace.specs.declared.trace.Setup.{Setup}
 use Rattle.qu_trace.specs.declared.trace.Trace.{Trace}
 use Rattle.qu_trace.specs.Faulty.{is_faulty}
 use Rattle.qu_trace.specs.Operation.{invokes, begun_by, record_of, begins_at, operations_from, operations_of}
-use Rattle.qu_world.specs.declared.fail.WorldFail.TheVariants as fails
 use Rattle.qu_world.specs.State.{WorldState, numbered}
 use Rattle.qu_world.specs.Step.{world_step}
 use Rattle.qu_world.specs.Refusals.{refused_invocation}
@@ -136,15 +135,11 @@ pub record IsFree (clients : List ClientState) (client : ClientId) : Type 0 wher
   pub found : numbered clients client.0 ≡ Some state
   pub free : state.work ≡ None
 
-no_work : (work : Option Work) → cond (is_some work) (Some fails.Busy) None ≡ None → work ≡ None
-no_work None may = refl
-no_work (Some work) may = absurd cc
-
 free_by : (clients : List ClientState) (client : ClientId) (who : Party) (found : Option ClientState)
     → numbered clients client.0 ≡ found → refused_invocation who found ≡ None → IsFree clients client
 free_by clients client who None is may = absurd cc
 free_by clients client who (Some state) is may =
-    record { state = state; found = is; free = no_work state.work may }
+    record { state = state; found = is; free = idle_by state.work may }
 
 -- an invocation at a correct client that may happen is that of a client without work
 pub may_invoke : (world : WorldState) (client : ClientId) (op : Op) → bar_of world (Invoke client op) ≡ None

@@ -1,9 +1,8 @@
 -- What is sent fits its format, and then what a letter carries is what was sent. A reply is decoded to no
 -- request, and a request to no reply, whether they fit or not.
-use Rattle.std.proofs.Common.{◌≡◌, ℕ, zero, suc, ◌+◌, ◌≤◌, ◌^◌, Bool, true, List, ◌++◌, length, Option, Some, Ok, refl, sym, ap, ◌∙◌, arith}
+use Rattle.std.proofs.Common.{◌≡◌, ℕ, ◌+◌, ◌≤◌, ◌^◌, Bool, true, List, ◌++◌, length, Option, Some, Ok, refl, sym, ap, ◌∙◌, arith}
 use Rattle.std.specs.Prelude.{slice_get}
 use Rattle.std.specs.Int.{w8, to_be_bytes}
-use Rattle.std.proofs.lemmas.Option.{none-some}
 use Rattle.qu_base.specs.declared.bad_text.Why.TheVariants.{Kind}
 use Rattle.qu_base.specs.declared.party.ClientId.{ClientId}
 use Rattle.qu_base.specs.declared.party.ObjectId.{ObjectId}
@@ -35,9 +34,8 @@ use Rattle.qu_replica.specs.Step.{answer_frame, handled, learned}
 use Rattle.qu_client.specs.declared.state.ClientState.{ClientState}
 use Rattle.qu_client.specs.declared.work.Work.{Work}
 use Rattle.qu_client.specs.Rounds as rounds
-use Rattle.qu_world.specs.State.{WorldState, numbered, with_numbered, letter_of}
+use Rattle.qu_world.specs.State.{WorldState, numbered, letter_of}
 use Rattle.qu_claims.specs.Carried.{Carries, Brings, Asks, Tells}
-use Rattle.qu_world.proofs.Each.{set_here}
 use Rattle.qu_waiting.specs.Waiting.{TakenRequest}
 
 -- ---- a letter carries what was sent
@@ -121,12 +119,6 @@ pub record IsFitStep (old new : WorldState) : Type 0 where
       → (sent : Frame) → frame_form.Fits sent → AnswersFit state sent
   pub carried : (number : ℕ) (letter : Letter) (sent : Frame) → letter_of old number ≡ Some letter
       → Carries letter sent → frame_form.Fits sent
-
--- a client that moved stands in its place
-pub numbered_here : {X : Type 0} (items : List X) (number : ℕ) (old new : X) → numbered items number ≡ Some old
-    → numbered (with_numbered items number new) number ≡ Some new
-numbered_here items zero old new found = absurd (none-some old found)
-numbered_here items (suc place) old new found = set_here items place old new found
 
 -- ---- kinds
 

@@ -11,6 +11,7 @@ use Rattle.qu_base.specs.declared.party.Party.TheVariants as party
 use Rattle.qu_base.specs.declared.party.ReplicaId.{ReplicaId}
 use Rattle.qu_base.specs.Bounds.{replicas, is_replica_count}
 use Rattle.qu_base.proofs.ThresholdFacts.{replicas_are_few, replicas_are_count}
+use Rattle.qu_base.proofs.EachItem.{each_append}
 use Rattle.qu_objects.specs.declared.kind.KindName.{KindName}
 use Rattle.qu_frames.specs.declared.frame.Frame.{Frame}
 use Rattle.qu_frames.specs.declared.frame.Letter.{Letter}
@@ -44,7 +45,7 @@ use Rattle.qu_claims.specs.Carried.{Carries, offered, handed}
 use Rattle.qu_claims.specs.Times.{world_after}
 use Rattle.qu_runs.specs.Plain.{HasEventParts, IsFrom, AreTyped}
 use Rattle.qu_runs.proofs.Fits.Carrying.{carried_is, AsksFit, AnswersFit, IsFitStep}
-use Rattle.qu_world.proofs.Each.{each_append, each_numbered, set_cases, with_cases, each_at}
+use Rattle.qu_world.proofs.Each.{each_numbered, set_cases, with_cases, each_at}
 use Rattle.qu_runs.proofs.Fits.FitClients.{tick_fit, tick_letters, FitClient, fit_more, step_fit, invoke_fit, asks_fit, step_letters, invoke_letters, opening_clients-fit}
 use Rattle.qu_runs.proofs.Small.{some_entry}
 use Rattle.qu_runs.proofs.Worlds.WorldGrowth.{world_after-none, world_after-next}

@@ -10,6 +10,7 @@ use Rattle.qu_base.specs.declared.party.Party.{Party}
 use Rattle.qu_base.specs.declared.party.Party.TheVariants as party
 use Rattle.qu_base.specs.declared.party.ReplicaId.{ReplicaId}
 use Rattle.qu_base.specs.Bounds.{replicas}
+use Rattle.qu_base.proofs.EachItem.{each_append}
 use Rattle.qu_seal.specs.Keys.{Ring}
 use Rattle.qu_stamp.specs.declared.stamp.Stamp.{Stamp}
 use Rattle.qu_history.specs.declared.sealed.Sealed.{Sealed}
@@ -35,7 +36,6 @@ use Rattle.qu_replica.specs.Step.{reply, version_letter, version_letters, fetch_
 use Rattle.qu_fitting.proofs.FitRequests.{blank_sized}
 use Rattle.qu_claims.specs.Carried.{Carries, Asks, Tells}
 use Rattle.qu_runs.proofs.Fits.Carrying.{same_kind, signed_spelled}
-use Rattle.qu_world.proofs.Each.{each_append}
 
 -- what the letter carries, if anything, is a fetch or a version
 abbrev pub CarriesOther : Letter → Type 0

@@ -1,6 +1,5 @@
 -- A letter that was sent keeps its number in all later worlds of a run.
 use Rattle.std.proofs.Common.{◌≡◌, ℕ, zero, suc, ◌+◌, ◌-◌, ◌<◌, ◌≤◌, List, [], ◌∷◌, ◌++◌, length, get_or, Some, ap, subst, ◌∙◌, arith, add-zero}
-use Rattle.std.proofs.lemmas.Option.{none-some, slice_get_within}
 use Rattle.qu_frames.specs.declared.frame.Letter.{Letter}
 use Rattle.qu_trace.specs.declared.event.Event.{Event}
 use Rattle.qu_trace.specs.declared.trace.Entry.{Entry}
@@ -8,17 +7,11 @@ use Rattle.qu_trace.specs.declared.trace.Trace.{Trace}
 use Rattle.qu_trace.specs.Letters.{letters_of}
 use Rattle.qu_world.specs.State.{WorldState, numbered, letter_of}
 use Rattle.qu_world.specs.Step.{world_step}
-use Rattle.qu_trace.proofs.LetterLaws.{slice_get-append_left, letters-push}
+use Rattle.qu_trace.proofs.LetterLaws.{letters-push, numbered-append}
 use Rattle.qu_world.proofs.RunLaws.{Records, step_records}
 use Rattle.qu_claims.specs.Times.{world_after}
 use Rattle.qu_runs.proofs.Worlds.WorldGrowth.{world_after-next}
 use Rattle.qu_runs.proofs.Small.{some_entry}
-
-numbered-append : {X : Type 0} (items more : List X) (number : ℕ) (item : X) → numbered items number ≡ Some item
-    → numbered (items ++ more) number ≡ Some item
-numbered-append items more zero item found = absurd (none-some item found)
-numbered-append items more (suc place) item found =
-    slice_get-append_left items more place (slice_get_within items place item found) ∙ found
 
 letters_more : (entries : List Entry) (entry : Entry) (number : ℕ) (letter : Letter)
     → numbered (letters_of entries) number ≡ Some letter → numbered (letters_of (entries ++ entry ∷ []))

@@ -1,7 +1,7 @@
 -- What the replicas of a run begin with: the opening candidates, and the bounds of the setup, which they keep.
 use Rattle.std.proofs.Common.{Bool, ◌≡◌, ℕ, zero, suc, ◌+◌, true, List, [], ◌∷◌, Some, sym, ap, subst, ◌∙◌, arith, inl, inr, zero-add, add-zero, length, refl, false, ◌<◌}
 use Rattle.std.specs.Prelude.{slice_get}
-use Rattle.std.proofs.lemmas.Bool.{false≢true, cases_Bool, or_cases, or_left}
+use Rattle.std.proofs.lemmas.Bool.{false≢true, cases_Bool, or_cases, or_left, not-true}
 use Rattle.std.proofs.lemmas.Option.{none-some, same_Some}
 use Rattle.std.specs.Prelude.{not, if◌then◌else◌}
 use Rattle.qu_base.specs.declared.party.Party.TheVariants as party
@@ -142,11 +142,7 @@ begins_accepted object number (suc count) keys kinds (suc place) below known =
 pub correct_kinds : (setup : Setup) (place : ℕ) → is_good setup place ≡ true → kinds_at setup place ≡ setup.kinds
 correct_kinds setup place good =
     ap (λ (test : Bool). if test then [] else setup.kinds)
-    (not_false (is_faulty setup (party.Replica (record { 0 = place }))) good)
-  where
-    not_false : (test : Bool) → not test ≡ true → test ≡ false
-    not_false true is = absurd (false≢true is)
-    not_false false is = refl
+    (not-true (is_faulty setup (party.Replica (record { 0 = place }))) good)
 
 pub all_begin : (trace : Trace) (object : ObjectId) (place : ℕ) → object.0 < length trace.setup.kinds
     → is_good trace.setup place ≡ true → place < replicas trace.setup.bounds

@@ -1,9 +1,10 @@
 -- Lists of parts: what holds along the objects of one holds along the same objects of another.
-use Rattle.std.proofs.Common.{◌≡◌, zero, suc, ◌<◌, ◌≤◌, List, [], ◌∷◌, length, map, get_or, All, refl, sym, subst, arith, inl}
+use Rattle.std.proofs.Common.{◌≡◌, zero, suc, ◌≤◌, List, [], ◌∷◌, length, map, get_or, All, refl, sym, subst, arith, inl}
 use Rattle.std.specs.Prelude.{Contains}
 use Rattle.std.specs.List.{AllZip}
 use Rattle.std.proofs.lemmas.List.Elements.{All-nil, All-cons, All-head, All-tail, Contains-get_or}
 use Rattle.qu_base.specs.declared.party.ObjectId.{ObjectId}
+use Rattle.qu_base.proofs.Items.{later_contains}
 use Rattle.qu_claims.specs.Parts.{Names}
 use Rattle.qu_replies.specs.Replies.{HoldsOfFirst}
 
@@ -45,11 +46,6 @@ zip_along R (first ∷ from) (second ∷ to) (value ∷ values) same each =
 
 -- ---- one list beside another
 
-later_in : {X : Type 0} (first : X) (later : List X) (it : X) → Contains later it → Contains (first ∷ later) it
-later_in first later it among =
-    let below : among.0 < length later = among.1 in
-    (suc among.0, omega arith, among.2)
-
 pub zip_weaker : {X Y : Type 0} (R S : X → Y → Type 0) (xs : List X) (ys : List Y)
     → ((x : X) (y : Y) → Contains xs x → R x y → S x y) → AllZip R xs ys → AllZip S xs ys
 zip_weaker R S [] [] weaker each = each
@@ -57,7 +53,7 @@ zip_weaker R S [] (y ∷ ys) weaker each = absurd each
 zip_weaker R S (x ∷ xs) [] weaker each = absurd each
 zip_weaker R S (x ∷ xs) (y ∷ ys) weaker each = (
   weaker x y (0, omega arith, refl) each.0,
-  zip_weaker R S xs ys (λ one other among. weaker one other (later_in x xs one among)) each.1,
+  zip_weaker R S xs ys (λ one other among. weaker one other (later_contains x xs one among)) each.1,
 )
 
 pub zip_at : {X Y : Type 0} (R : X → Y → Type 0) (xs : List X) (ys : List Y) (x : X) → Contains xs x

@@ -20,6 +20,7 @@ use Rattle.qu_trace.specs.declared.trace.Trace.{Trace}
 use Rattle.qu_trace.specs.Operation.{operations_of}
 use Rattle.qu_world.specs.Run.{IsRun}
 use Rattle.qu_objects.specs.declared.act.Method.{Method}
+use Rattle.qu_objects.proofs.PartLaws.{same_parts}
 use Rattle.qu_replies.specs.Replies.{culled_in, HasTold}
 use Rattle.qu_claims.specs.Handling.{Handles}
 use Rattle.qu_accepts.proofs.Handling.{mid_candidates}
@@ -90,10 +91,7 @@ module _ (trace : Trace) (is_run : IsRun trace) (have : ArePlain trace) (clients
       → (act : List (ObjectId × Method)) → operation.op ≡ op.Act act → ActOfQuorum trace operation act reply told
   act_of_quorum operation reply told answer done act is =
       subst (λ (parts : List (ObjectId × Method)). ActOfQuorum trace operation parts reply told)
-      (same_act done.parts act (sym done.is_act ∙ is)) done.of_quorum
-    where
-      same_act : (first second : List (ObjectId × Method)) → op.Act first ≡ op.Act second → first ≡ second
-      same_act first second same = cc
+      (same_parts done.parts act (sym done.is_act ∙ is)) done.of_quorum
 
   of_quorum : (operation : OpRecord) (reply : ℕ) (answer : Answer)
       → Contains (operations_of trace) operation → Completes operation reply answer

@@ -20,6 +20,7 @@ use Rattle.qu_trace.specs.declared.trace.Trace.{Trace}
 use Rattle.qu_trace.specs.Operation.{operations_of}
 use Rattle.qu_world.specs.Run.{IsRun}
 use Rattle.qu_objects.specs.Digesting.{act_digest}
+use Rattle.qu_objects.proofs.PartLaws.{same_parts}
 use Rattle.qu_safety.proofs.Completed.Along.{objects_in}
 use Rattle.qu_claims.specs.Handled.{IsHandled, IsMadeFor}
 use Rattle.qu_claims.specs.Completions.{RepliedAt, Replied}
@@ -95,9 +96,6 @@ pub record HasAll (trace : Trace) (operation : OpRecord) (parts : List (ObjectId
       × HasPart trace operation parts kept time replica told) stamps
   pub first : HoldsOfFirst (HasPart trace operation parts answer time replica) stamps
 
-same_acts : (first second : List (ObjectId × Method)) → op.Act first ≡ op.Act second → first ≡ second
-same_acts first second same = cc
-
 module _ (trace : Trace) (is_run : IsRun trace) (have : ArePlain trace) (clients : ClientFacts trace)
     (operation : OpRecord) (among : Contains (operations_of trace) operation)
     (parts : List (ObjectId × Method)) (is_act : operation.op ≡ op.Act parts) where
@@ -126,7 +124,7 @@ module _ (trace : Trace) (is_run : IsRun trace) (have : ArePlain trace) (clients
       (ap (λ (it : ClientId). it.0) request.of_client) request.of_number in
       let is_for : IsFor operation.op (body.Act asks.parts) =
       subst (IsFor operation.op) asks.is_act (subst (λ (it : OpRecord). IsFor it.op reply.body) same request.asks) in
-      same_acts asks.parts parts (sym (op_for (op.Act asks.parts) operation.op is_for) ∙ is_act)
+      same_parts asks.parts parts (sym (op_for (op.Act asks.parts) operation.op is_for) ∙ is_act)
 
   -- and so the replica handled it
   pub told_handled : (at : ℕ) (below : at < length trace.entries) (replica round : ℕ) (given : Verdict)

@@ -8,7 +8,6 @@ use Rattle.qu_base.specs.declared.party.ClientId.{ClientId}
 use Rattle.qu_machine.specs.declared.record.OpRecord.{OpRecord}
 use Rattle.qu_machine.specs.declared.record.Point.{Point}
 use Rattle.qu_machine.specs.Serial.{Stands, StandsAt, StandsAtMostOnce, IsOfOperations, IsUpdate, Agree, IsLoneUpdate}
-use Rattle.qu_machine.proofs.Firsts.{contains_at}
 use Rattle.qu_trace.specs.declared.trace.Trace.{Trace}
 use Rattle.qu_trace.specs.Operation.{operations_of}
 use Rattle.qu_world.specs.Run.{IsRun}
@@ -24,9 +23,11 @@ use Rattle.qu_points.specs.Points.{as_operation}
 use Rattle.qu_points.proofs.Taken.Taking.{effect_once}
 use Rattle.qu_runs.proofs.Small.{same_point}
 use Rattle.qu_base.specs.declared.party.ObjectId.{ObjectId}
+use Rattle.qu_base.proofs.Items.{contains_at}
 use Rattle.qu_objects.specs.declared.act.Method.{Method}
 use Rattle.qu_objects.specs.declared.op.Op.{Op}
 use Rattle.qu_objects.specs.declared.op.Op.TheVariants as op
+use Rattle.qu_objects.proofs.PartLaws.{same_parts}
 use Rattle.qu_runs.specs.Plain.{ArePlain}
 use Rattle.qu_safety.proofs.Points.EventRequests.{one_point}
 use Rattle.qu_safety.proofs.Points.PointEvents.{begun_before}
@@ -108,7 +109,7 @@ module _ (trace : Trace) (order : List Point) (is_order : IsOwnedOrder trace ord
   one_faulty : (first second : Point) → (one : IsFaultyPoint trace first) → (two : IsFaultyPoint trace second)
       → Agree first second → first ≡ second
   one_faulty first second one two agree =
-      let parts : one.parts ≡ two.parts = acts_are one.parts two.parts (sym one.op ∙ agree.op ∙ two.op) in
+      let parts : one.parts ≡ two.parts = same_parts one.parts two.parts (sym one.op ∙ agree.op ∙ two.op) in
       same_point first second
       (effect_once trace (as_operation (second.client, second.number, two.parts)) first.event second.event
       (op.Act two.parts)
@@ -117,9 +118,6 @@ module _ (trace : Trace) (order : List Point) (is_order : IsOwnedOrder trace ord
       (subst (λ (it : ClientId). DecidesAt trace it first.number one.parts first.event) agree.client one.effect)))
       two.effect)
       agree.client agree.number agree.op agree.faulty
-    where
-      acts_are : (parts others : List (ObjectId × Method)) → op.Act parts ≡ op.Act others → parts ≡ others
-      acts_are parts others same = cc
 
   is_update : (point : Point) (what : Op) (parts : List (ObjectId × Method)) → what ≡ op.Act parts → IsUpdate what
   is_update point (op.Act act) parts is = tt

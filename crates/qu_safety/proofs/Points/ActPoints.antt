@@ -17,6 +17,7 @@ use Rattle.qu_objects.specs.declared.act.Method.{Method}
 use Rattle.qu_objects.specs.declared.kind.Value.{Value}
 use Rattle.qu_objects.specs.declared.op.Op.{Op}
 use Rattle.qu_objects.specs.declared.op.Op.TheVariants as op
+use Rattle.qu_objects.proofs.PartLaws.{same_parts}
 use Rattle.qu_machine.specs.declared.record.OpRecord.{OpRecord}
 use Rattle.qu_machine.specs.declared.record.Point.{Point}
 use Rattle.qu_machine.specs.Machine.{act_values}
@@ -324,9 +325,6 @@ module _ (trace : Trace) (laws : Laws (setting trace)) (joint : Joint (setting t
     pub of_client : client ≡ point.client
     pub of_number : number ≡ point.number
     pub decides : DecidesAt trace client number parts point.event
-
-  same_parts : (parts others : List (ObjectId × Method)) → op.Act parts ≡ op.Act others → parts ≡ others
-  same_parts parts others same = cc
 
   pub point_update : (point : Point) (parts : List (ObjectId × Method)) → point.op ≡ op.Act parts → HasOwner trace point
       → UpdateAt point parts

@@ -10,7 +10,6 @@ use Rattle.qu_frames.specs.declared.frame.Letter.{Letter}
 use Rattle.qu_verdicts.specs.declared.verdict.Verdict.{Verdict}
 use Rattle.qu_machine.specs.declared.record.OpRecord.{OpRecord}
 use Rattle.qu_machine.specs.declared.record.Point.{Point}
-use Rattle.qu_machine.proofs.Equalities.{client_is}
 use Rattle.qu_trace.specs.declared.trace.Trace.{Trace}
 use Rattle.qu_safety.proofs.Points.OwnedPoints.{IsOperationPoint}
 use Rattle.qu_points.specs.Points.{effect_of}
@@ -23,6 +22,7 @@ use Rattle.qu_claims.specs.Carried.{Tells}
 use Rattle.qu_frames.specs.Decoding.{decoded}
 use Rattle.qu_history.specs.declared.sealed.Sealed.{Sealed}
 use Rattle.qu_base.specs.declared.bad_text.BadText.{BadText}
+use Rattle.qu_base.proofs.Numbered.{client_is}
 
 -- ---- answers
 

@@ -19,10 +19,11 @@ use Rattle.qu_claims.specs.RunSetting.{setting}
 use Rattle.qu_claims.specs.Updates.{Update, IsOf, IsEverAccepted}
 use Rattle.qu_claims.specs.Values.{RestsOn, HasVersion}
 use Rattle.qu_claims.specs.Parts.{Names, values_on}
+use Rattle.qu_claims.proofs.PartValues.{same_values, values_same}
 use Rattle.qu_runs.proofs.Acts.OneAct.{ActsAreOne}
 use Rattle.qu_values.proofs.Updating.UpdateFacts.{ValueStep, befores, afters, IsStep, IsPerformed, UpdateFacts}
 use Rattle.qu_values.proofs.Updating.Updates.{acts, one_of, same_accepted, one_companion, one_act_of}
-use Rattle.qu_values.proofs.Versions.Values.{same_values, values_same, row_upon, IsUpdated, value_after, own_row, updated}
+use Rattle.qu_values.proofs.Versions.Values.{row_upon, IsUpdated, value_after, own_row, updated}
 
 -- ---- steps of a list of parts
 

@@ -6,6 +6,7 @@ use Rattle.std.proofs.lemmas.Bool.{cases_eq, false≢true}
 use Rattle.std.proofs.lemmas.Option.{none-some, same_Some}
 use Rattle.qu_base.specs.declared.party.ClientId.{ClientId}
 use Rattle.qu_base.specs.declared.party.ObjectId.{ObjectId}
+use Rattle.qu_base.proofs.Numbered.{client_is}
 use Rattle.qu_stamp.specs.declared.candidate.Candidate.{Candidate}
 use Rattle.qu_stamp.specs.Candidate.{opening}
 use Rattle.qu_claims.specs.Setting.{IsAttested, IsAncestor}
@@ -36,9 +37,6 @@ KeepsFrom client number state = (row : KeptRow) × (row_of client state.kept ≡
 row_lower : (number : ℕ) (found : Option KeptRow) (row : KeptRow) → found ≡ Some row → IsLower number found
     → row.number < number
 row_lower number found row is lower = subst (IsLower number) is lower
-
-same_client : (client other : ClientId) → client.0 ≡ other.0 → client ≡ other
-same_client client other same = λ i. record { 0 = same i }
 
 module _ (trace : Trace) (laws : Laws (setting trace)) (joint : Joint (setting trace)) (one_act : ActsAreOne trace)
   where
@@ -123,7 +121,7 @@ module _ (trace : Trace) (laws : Laws (setting trace)) (joint : Joint (setting t
       still_keeps client number it =
           elim (cases_eq client.0 ((made.update).client).0) [
             | inl same ↦
-                let clients : client ≡ (made.update).client = same_client client (made.update).client same in
+                let clients : client ≡ (made.update).client = client_is client (made.update).client same in
                 let higher : number < (made.update).number =
                 before_lower number (subst (λ (who : ClientId). KeepsFrom who number before) clients it) in
                 subst (λ (who : ClientId). KeepsFrom who number state) (sym clients) (
@@ -330,7 +328,7 @@ module _ (trace : Trace) (laws : Laws (setting trace)) (joint : Joint (setting t
         written_after : AreWritten object (made.bases object) (made.befores object) → AreWritten object candidate state
         written_after so_far client row found =
             elim (cases_eq client.0 ((made.update).client).0) [
-              | inl same ↦ written_own client row (same_client client (made.update).client same) found
+              | inl same ↦ written_own client row (client_is client (made.update).client same) found
               | inr apart ↦
                   written_before client row
                   (so_far client row (sym (other_row trace object candidate state made client apart) ∙ found))

@@ -1,5 +1,5 @@
 -- How a candidate has its version, which rows that keeps, and that there is one at most.
-use Rattle.std.proofs.Common.{◌≡◌, ◌⊎◌, true, List, [], ◌∷◌, Some, inl, inr, refl, sym, ap, subst, ◌∙◌, false}
+use Rattle.std.proofs.Common.{◌≡◌, ◌⊎◌, true, List, [], Some, inl, inr, refl, sym, ap, subst, ◌∙◌, false}
 use Rattle.std.specs.Prelude.{slice_get}
 use Rattle.std.proofs.lemmas.Bool.{false≢true}
 use Rattle.std.proofs.lemmas.Option.{same_Some}
@@ -27,38 +27,9 @@ use Rattle.qu_claims.specs.RunSetting.{setting}
 use Rattle.qu_claims.specs.Updates.{Update, IsOf, IsEverAccepted}
 use Rattle.qu_claims.specs.Values.{RestsOn, HasVersion}
 use Rattle.qu_claims.specs.Parts.{Names, values_on}
+use Rattle.qu_claims.proofs.PartValues.{same_values, values_same}
 use Rattle.qu_runs.proofs.Acts.OneAct.{ActsAreOne}
 use Rattle.qu_values.proofs.Updating.Updates.{one_of, same_accepted, one_companion, acts, opening_no_act}
-
--- ---- parts of equal wholes
-
--- values of objects that agree where the parts name them
-pub same_values : (first second : ObjectId → Value) (parts : List (ObjectId × Method))
-    → ((object : ObjectId) → Names parts object → first object ≡ second object)
-    → values_on first parts ≡ values_on second parts
-same_values first second [] same = refl
-same_values first second (part ∷ parts) same =
-    ap (λ (it : Value). it ∷ values_on first parts) (same part.0 (inl refl))
-    ∙ ap (λ (more : List Value). second part.0 ∷ more)
-    (same_values first second parts (λ object names. same object (inr names)))
-
-abbrev head_or : Value → List Value → Value
-head_or default [] = default
-head_or default (value ∷ later) = value
-
-abbrev rest_of : List Value → List Value
-rest_of [] = []
-rest_of (value ∷ later) = later
-
--- and back
-pub values_same : (first second : ObjectId → Value) (parts : List (ObjectId × Method))
-    → values_on first parts ≡ values_on second parts → (object : ObjectId) → Names parts object
-    → first object ≡ second object
-values_same first second [] same object names = absurd names
-values_same first second (part ∷ parts) same object (inl here) =
-    subst (λ (it : ObjectId). first it ≡ second it) here (ap (head_or (first part.0)) same)
-values_same first second (part ∷ parts) same object (inr later) =
-    values_same first second parts (ap rest_of same) object later
 
 -- ---- the three ways to have a version
 

@@ -1,7 +1,7 @@
 use Rattle.std.proofs.Common.{eqb, Bool, ap, ◌∙◌}
 use Rattle.std.specs.List.{list_any}
 use Rattle.qu_history.specs.History.{ObjectHistory}
-use Rattle.qu_question.proofs.Marks.{any_history}
+use Rattle.qu_class.proofs.Tested.{any_history}
 use Rattle.qu_question.proofs.kept.marking.are_showing.Goals as goal
 
 pub returns : goal.returns

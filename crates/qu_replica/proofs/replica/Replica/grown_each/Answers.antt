@@ -2,13 +2,14 @@
 use Rattle.std.proofs.Common.{rules, ◌≡◌, ◌<◌, List, [], ◌∷◌, ◌++◌, length, take, sym, subst, ap, ◌∙◌}
 use Rattle.std.specs.List.{AllByRecursion}
 use Rattle.std.proofs.lemmas.List.{take_more, take_all}
+use Rattle.qu_base.proofs.EachItem.{each_push}
 use Rattle.qu_history.specs.History.{ObjectHistory}
 use Rattle.qu_mends.specs.declared.accepted.Accepted.{Accepted}
 use Rattle.qu_rows.specs.Allowed.{MayAccept}
 use Rattle.qu_rows.specs.State.{ReplicaState, AreHistories}
 use Rattle.qu_fitting.specs.Holding.{with_histories}
 use Rattle.qu_fitting.proofs.Accepting.{grown_place}
-use Rattle.qu_fitting.proofs.AcceptingAll.{with_candidates, accept_all-is, grown_more, all_push, one_of}
+use Rattle.qu_fitting.proofs.AcceptingAll.{with_candidates, accept_all-is, grown_more, one_of}
 use Rattle.qu_replica.proofs.replica.Replica.grown_each.Goals as goal
 
 pub grown-requires : goal.grown-requires
@@ -36,7 +37,7 @@ loop-one-preserved c =
           ∙ ap (λ (it : Accepted). take c.loop-one.one-index c.args.accepted.now ++ it ∷ []) (sym c.one-item.is)));
       known = subst (AllByRecursion (λ (it : ObjectHistory). (it.object).0 < length state.histories))
           (sym c.in_ok-push.ensures.ok)
-          (all_push (λ (it : ObjectHistory). (it.object).0 < length state.histories) c.loop-one.grown history
+          (each_push (λ (it : ObjectHistory). (it.object).0 < length state.histories) c.loop-one.grown history
           c.loop-one.invariant.known (subst (λ at. at < length state.histories) (sym place) may.0.known));
     }
 
