@@ -7,6 +7,6 @@ never by what a crate does or prints. `told_frames`, `told_bytes`, `listed_frame
 `generator`, the script of a number by docs/generator.md, by whoever wrote the crate of that script.
 
 `values`, `writing`, `reading` and `keys` have what is sent; `kinds` what objects do; `classes`, `plans`, `replica` and
-`client` what parties do; `world`, `audit` and `points` what a run is; `script` and `player` make the run of a script, and
-`report` writes it. tools/frame makes frames with its keys and its bytes.
+`client` what parties do; `world`, `audit` and `points` what a run is; `script` and `player` make the run of a script,
+and `report` writes it. tools/frame makes frames with its keys and its bytes.
 """

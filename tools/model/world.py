@@ -15,8 +15,8 @@ MOST_BYTES = 1 << 31
 
 
 class Refused(Exception):
-    """A script or an event is refused: the kind, the line of the script, or 0 where it is not known yet, and the world as
-    it is then, or None where nothing ran."""
+    """A script or an event is refused: the kind, the line of the script, or 0 where it is not known yet, and the world
+    as it is then, or None where nothing ran."""
 
     def __init__(self, kind, line=0, world=None):
         super().__init__(f"line {line}: {kind}")

@@ -51,9 +51,10 @@ class Letter:
 class Event:
     """An event: its kind is call, tick, deliver or inject. `letter` is the number of what is delivered, `again` whether
     it was before; `claimed` the party that injected bytes name; `frame` what a party takes; `counted` whether a version
-    counts that was fetched, and what it brings about; `waits` whether a request waits; `over` the client's round that is
-    over and why, `without` the replicas that are left out; `rests` how long it rests, `asks` whom it asks; `ends` the
-    operation that is done here, `answer` its answer (None: given up); `sends` the numbers of the letters that it sends.
+    counts that was fetched, and what it brings about; `waits` whether a request waits; `over` the client's round that
+    is over and why, `without` the replicas that are left out; `rests` how long it rests, `asks` whom it asks; `ends`
+    the operation that is done here, `answer` its answer (None: given up); `sends` the numbers of the letters that it
+    sends.
     """
 
     number: int

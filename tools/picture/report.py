@@ -45,8 +45,8 @@ def read_faulty(data, file):
 
 
 def read_broken(data, file, run):
-    """The events of a run that break a premise by its report, with a word for each. Raises Malformed where a line of the
-    report has no known form, or tells of another run."""
+    """The events of a run that break a premise by its report, with a word for each. Raises Malformed where a line of
+    the report has no known form, or tells of another run."""
     lines = lines_of(data)
     if not lines or not BOUNDS.fullmatch(lines[0][1]):
         raise Malformed(1, "unknown line", file)

@@ -4,7 +4,7 @@ use Rattle.qu_claims.specs.Carried.{offered}
 use Rattle.qu_runs.proofs.Events.Handing.{handed_offers, handed_correct}
 use Rattle.qu_claims.specs.Handled.{is_handler}
 use Rattle.qu_runs.proofs.Digests.Plain.{setup_after}
-use Rattle.std.proofs.Common.{false, subst}
+use Rattle.std.proofs.Common.{false}
 use Rattle.std.proofs.Common.{◌≡◌, ℕ, ◌<◌, ◌≤◌, Bool, true, not, cond, List, length, Option, None, Some, refl, sym, ap, ◌∙◌, arith}
 use Rattle.std.specs.Prelude.{slice_get, nat_lt, Contains, option_map}
 use Rattle.std.specs.List.{list_all}
@@ -40,8 +40,6 @@ use Rattle.qu_claims.specs.Times.{world_after}
 use Rattle.qu_runs.proofs.Worlds.OpeningReplicas.{all_replicas, keys_are, me_is}
 use Rattle.qu_accepts.proofs.KnownObjects.{delivered_known}
 use Rattle.qu_claims.specs.Handling.{Handles}
-use Rattle.qu_claims.specs.Digested.{Text, texts_of, texts_at}
-use Rattle.std.proofs.lemmas.List.Elements.{Contains-append_left}
 use Rattle.qu_accepts.proofs.Handling.{same_culled}
 use Rattle.qu_runs.proofs.Events.Recording.{letter_stays}
 use Rattle.qu_claims.specs.Carried.{Brings, handed}
@@ -136,38 +134,6 @@ handled_upon trace is_run time within entry of_trace place old is_old text hands
           (record { client = client; number = number; sets = sets; body = body.Act parts }) round sent mac brings known
           refl;
     }
-
--- what is digested of a request when it is handled was digested at the event at which it came, so that handling it
--- later, or anew, digests nothing new
-pub digested_when_it_came : (trace : Trace) → IsRun trace → (at : ℕ) → at < length trace.entries → (place : ℕ)
-    (old new : ReplicaState) (handles : Handles trace at place old new) (client : ClientId) (number round : ℕ)
-    (sent : List SetOf) (asks : Body) (mac : List ℕ)
-    → handles.carried ≡ frame.Request client number round sent asks mac
-    → list_all (is_of_setup trace.setup) sent ≡ true → (text : Text)
-    → Contains (texts_of (Some (record {
-      client = client;
-      number = number;
-      sets = culled (handles.mid).keys (handles.mid).me sent;
-      body = asks;
-    }))) text → (handles.since ≤ at) × Contains (texts_at trace handles.entry) text
-unfolding texts_at
-digested_when_it_came trace is_run at below place old new handles client number round sent asks mac is_request known
-    text among =
-    let request : Request = record {
-      client = client;
-      number = number;
-      sets = culled (handles.mid).keys (handles.mid).me sent;
-      body = asks;
-    } in
-    let handled : handled_by trace (handles.entry).event ≡ Some request =
-    request_handled trace is_run handles.since (omega (arith, below, handles.came)) (handles.entry).event place
-    handles.receiver handles.is_receiver handles.text handles.is_handed request round sent mac
-    (handles.brings ∙ ap (λ (it : Frame). Some it) is_request) known
-    (same_culled trace at place old new handles sent) in (
-      handles.came,
-      Contains-append_left (texts_of (handled_by trace (handles.entry).event)) _ text
-          (subst (λ (it : Option Request). Contains (texts_of it) text) (sym handled) among),
-    )
 
 -- the request upon which a replica accepts a candidate
 abbrev pub request_upon : (mid new : ReplicaState) (received : Frame) → Accepts mid new received → Request
