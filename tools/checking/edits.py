@@ -1,5 +1,5 @@
 """The wrong bodies: that each edit can be applied, and how many there are of a crate and in all."""
-from checking.texts import crate_of
+from checking.texts import crate_of, kind_of
 
 LEAST_OF_CRATE, MOST_OF_CRATE, MOST_OF_ALL = 3, 5, 66
 
@@ -21,18 +21,20 @@ def check_edits(texts):
 
 
 def check_edit(path, text, texts):
-    """That each old text stands once in its file, behind the places before it."""
-    now = old = target = None
+    """That each old text stands once in its file, as the places before it have made that."""
+    made, target, old = dict(texts), None, None
+    is_tried_by_the_gate = path.split("/")[2] == "must-fail"
     for number, line in enumerate(text.split("\n"), 1):
         word, _, rest = line.partition(":")
         if word == "file":
             target = f"crates/{crate_of(path)}/{rest.strip()}"
-            now = texts.get(target)
-            if now is None:
+            if target not in made:
                 yield path, number, f"{target} does not exist"
-        elif line.startswith("old: ") and now is not None:
+            elif is_tried_by_the_gate and kind_of(target) != "src":
+                yield path, number, "an edit that the gate tries changes code alone"
+        elif line.startswith("old: ") and target in made:
             old = line[len("old: "):]
-            if now.count(old) != 1:
-                yield path, number, f"the old text stands {now.count(old)} times in {target}"
-        elif word == "new" and now is not None and old is not None:
-            now = now.replace(old, rest[1:], 1)
+            if made[target].count(old) != 1:
+                yield path, number, f"the old text stands {made[target].count(old)} times in {target}"
+        elif word == "new" and target in made and old is not None:
+            made[target] = made[target].replace(old, rest[1:], 1)

@@ -199,6 +199,15 @@ class OfFiles(Checked):
             self.assertEqual(len(self.found(check_edits, {**where, "crates/qu_a/src/a.rt": text})), 1)
         self.assertEqual(len(self.found(check_edits, where)), 1)
 
+    def test_an_edit_of_several_places(self):
+        edit = "file: src/a.rt\nold: once\nnew: twice\nfile: specs/A.antt\nold: one\nnew: two\n"
+        texts = {"crates/qu_a/src/a.rt": "once\n", "crates/qu_a/specs/A.antt": "one\n"}
+        again = edit + "file: src/a.rt\nold: twice\nnew: thrice\n"
+        for text, faults in ((edit, 0), (again, 0), (again + "old: once\nnew: none\n", 1)):
+            self.assertEqual(len(self.found(check_edits, {**texts, "crates/qu_a/wrong/a.edit": text})), faults)
+        what = self.found(check_edits, {**texts, "crates/qu_a/must-fail/a.edit": edit})
+        self.assertIn("an edit that the gate tries changes code alone", what)
+
     def test_how_many_edits_a_crate_has(self):
         for count, what in ((1, ["1 edits, 3 at least, or none"]), (2, ["2 edits, 3 at least, or none"]), (3, []),
                             (5, []), (6, ["6 edits, 5 at most"])):

@@ -51,6 +51,28 @@ class Library(Node):
         return 0
 
 
+class Keeper:
+    """What the gate kept: libraries by their texts and by those of the libraries below them as they were built."""
+
+    store = {}
+
+    def __init__(self, crates):
+        self.rlibs = {}
+
+    def is_built(self, crate):
+        self.rlibs[crate.folder] = text_of(os.path.join(crate.rlib, "made"))
+
+    def key(self, crate):
+        return (crate.text, *[self.rlibs.get(it.folder) for it in crate.below()])
+
+    def give(self, crate, tests, key):
+        if key in self.store and not tests:
+            os.makedirs(crate.rlib)
+            with open(os.path.join(crate.rlib, "made"), "w", encoding="utf-8") as made:
+                made.write(self.store[key])
+        return key in self.store
+
+
 def text_of(file):
     try:
         with open(file, encoding="utf-8") as it:
@@ -123,6 +145,35 @@ class Rt(unittest.TestCase):
             low.build_rlib([], False)
             self.assertEqual([it.is_built() for it in both], [True, False])
             self.assertEqual([it.proofs for it in both], [3, 2])
+
+    def test_a_library_that_the_gate_kept_is_taken_and_no_other(self):
+        with tempfile.TemporaryDirectory() as top:
+            kind = type("Given", (Library,), {})
+            kind.name = property(lambda crate: crate.folder)
+            rtlib = SimpleNamespace(Crate=kind, text_of=text_of, root_above=lambda folder: top)
+            gate = SimpleNamespace(rtlib=rtlib, Crate=kind, Kept=Keeper, handles_of=lambda root: ("Wait",))
+            self.tool.use_statements(rtlib, self.tool.Store(gate).give)
+            low = kind(top, "low", [])
+            high = kind(top, "high", [low])
+            both = [low, high]
+            Keeper.store = {("",): "low of the gate", ("", "low of the gate"): "high of the gate"}
+            self.assertEqual([it.build_rlib([], False) for it in both + both], [0, 0, 0, 0])
+            self.assertEqual([it.proofs for it in both], [0, 0])
+            self.assertEqual(kind.allowed, ("Wait",))
+            low.text = "changed"
+            self.assertEqual([it.build_rlib([], False) for it in both], [0, 0])
+            self.assertEqual([it.proofs for it in both], [1, 1])
+            low.text = ""
+            self.assertEqual([it.build_rlib([], False) for it in both], [0, 0])
+            self.assertEqual([it.proofs for it in both], [1, 1])
+
+    def test_a_toolchain_that_keeps_nothing_gives_nothing(self):
+        with tempfile.TemporaryDirectory() as top:
+            kind = type("Alone", (Library,), {})
+            rtlib = SimpleNamespace(Crate=kind, text_of=text_of, root_above=lambda folder: top)
+            self.tool.use_statements(rtlib, self.tool.Store(SimpleNamespace(rtlib=rtlib)).give)
+            low = kind(top, "low", [])
+            self.assertEqual((low.build_rlib([], False), low.proofs), (0, 1))
 
     @unittest.skipIf(shutil.which("rt") is None, "there is no rt on the path")
     def test_rt_itself_is_one(self):
