@@ -39,7 +39,7 @@ TOLD = [
     (PROTOCOL, "NAME_LIMIT", "it has {} bytes at most"),
     (PROTOCOL, "LAST_TIME", "Times go up to {}."),
     (PROTOCOL, "LAST_TIME", "has a time after {} |"),
-    (PROTOCOL, "LAST_TIME", "the latest time is {};"),
+    (PROTOCOL, "LAST_TIME", "the latest time is {} |"),
     (PROTOCOL, "LAST_TIME", "| time | u64 | 0 to {} |"),
     (PROTOCOL, "HISTORY_LIMIT", "It holds up to {} candidates"),
     (PROTOCOL, "HISTORY_LIMIT", "history holds {} candidates"),

@@ -8,7 +8,7 @@ from typing import NamedTuple
 
 from model.listing import ListedWorld
 from model.player import Player
-from model.report import premises_line
+from model.report import audited, premises_line
 from model.script import read_script
 from model.world import Refused
 from picture.listing import read_listing
@@ -74,7 +74,7 @@ def last_words(play):
     """What is told of the whole run: the operations without an end, and the premises."""
     ends, operations = play.world.ends, play.world.operations
     names = sorted((each.client, each.number) for each in operations if (each.client, each.number) not in ends)
-    return [*(f"open {client}.{number}" for client, number in names), premises_line(play.world)]
+    return [*(f"open {client}.{number}" for client, number in names), premises_line(audited(play.world))]
 
 
 def happened(data, listing=None):

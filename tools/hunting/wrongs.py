@@ -14,9 +14,9 @@ from hunting.programs import Programs
 WRONG = (
     "qu_replica/found_at_b_identical_answers", "qu_replica/a_version_of_another_kind_counts",
     "qu_replica/read_request_is_handled_without_its_hmac", "qu_replica/plan_keeps_the_version_under_the_prior",
-    "qu_sync/found_where_answers_differ", "qu_handling/nothing_is_culled", "qu_handling/a_repeated_act_is_performed",
-    "qu_handling/operation_upon_older_sets", "qu_handling/digest_before_culling", "qu_performing/links_are_lost",
-    "qu_performing/refused_act_changes_the_parts_before_it", "qu_performing/no_row_where_the_act_is_refused",
+    "qu_waiting/found_where_answers_differ", "qu_rows/nothing_is_culled", "qu_rows/a_repeated_act_is_performed",
+    "qu_rows/operation_upon_older_sets", "qu_rows/digest_before_culling", "qu_kept/links_are_lost",
+    "qu_kept/refused_act_changes_the_parts_before_it", "qu_kept/no_row_where_the_act_is_refused",
     "qu_mends/barrier_rests_on_the_latest", "qu_mends/one_held_candidate_is_enough",
     "qu_rows/retry_is_told_already", "qu_rows/one_object_alone_is_accepted", "qu_class/method_at_the_repair_threshold",
     "qu_class/members_agree_by_stamps_alone", "qu_plan/plan_of_the_target_alone", "qu_plan/covered_by_a_later_link",
