@@ -1,5 +1,5 @@
-//! Tests of the lowest crates over their public calls, of what no clause says. A file is named for the crate that it
-//! tests.
+//! Tests of the lowest crates and of the generator over their public calls, of what no clause says. A file is named for
+//! what it tests.
 #![tactic(auto)]
 
 #[cfg(test)]

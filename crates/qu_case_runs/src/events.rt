@@ -32,7 +32,7 @@ pub fn listed(
     let (setup, lines) = setup_and_lines(lines);
     let world = world_with(alloc, setup)?;
     let trace = make_lines(alloc, names, setup, lines, world, &mut Told::new(alloc))?;
-    // Points are found by the crates above.
+    // Points are not asked for here, but in `points`.
     let text = events_text(alloc, &trace, &Premises::Hold, &[])?;
     out.put_bytes(alloc, text.as_slice().trim_ascii_end());
     Ok(())
